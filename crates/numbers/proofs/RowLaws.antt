@@ -1,0 +1,106 @@
+-- Laws of rows of sixteen, and the steps of a loop that fills one from the front.
+use Prim.Native.Nat.{ℕ, zero, suc, _+_, _-_, _≤_, _<_}
+use mathlib.Core.Path.{_≡_, refl, sym, _∙_, ap}
+use mathlib.Core.List.{List, [], _∷_}
+use mathlib.Core.Bool.{Bool, true, false, cond}
+use lib.Dec.{ltb}
+use lib.ListN.{length, getD, set, replicate, length-set}
+use lib.Seq.{ext-getD, getD-set-same, getD-set-other}
+use native.Mathlib.Omega.{arith}
+use native.Mathlib.Decide.{ℕ-discrete, decLt}
+use borrow.Author.Tests.{lt-ltb, le-ltb}
+use Rattle.numbers.specs.Rows.{tab, upTo, row}
+
+module _ {A : Type 0} (z : A) where
+  pub length-tab : (w : ℕ) (f : ℕ → A) → length (tab w f) ≡ w
+  unfolding tab
+  length-tab zero f = refl
+  length-tab (suc w) f = ap suc (length-tab w (λ k. f (suc k)))
+
+  pub getD-tab : (w : ℕ) (f : ℕ → A) (k : ℕ) → k < w → getD (tab w f) k z ≡ f k
+  unfolding tab
+  getD-tab zero f k h = absurd (omega arith)
+  getD-tab (suc w) f zero h = refl
+  getD-tab (suc w) f (suc k) h = getD-tab w (λ j. f (suc j)) k (omega arith)
+
+  module _ (n : ℕ) (f : ℕ → A) where
+    pub upTo-below : (k : ℕ) → k < n → upTo z n f k ≡ f k
+    unfolding upTo
+    upTo-below k h = rw (lt-ltb k n h)
+
+    pub upTo-above : (k : ℕ) → n ≤ k → upTo z n f k ≡ z
+    unfolding upTo
+    upTo-above k h = rw (le-ltb k n h)
+
+    pub length-row : length (row z n f) ≡ 16
+    unfolding row
+    length-row = length-tab 16 (upTo z n f)
+
+    pub getD-row : (k : ℕ) → k < n → n ≤ 16 → getD (row z n f) k z ≡ f k
+    unfolding row
+    getD-row k h g = getD-tab 16 (upTo z n f) k (omega arith) ∙ upTo-below k h
+
+    pub getD-row-above : (k : ℕ) → n ≤ k → k < 16 → getD (row z n f) k z ≡ z
+    unfolding row
+    getD-row-above k h g = getD-tab 16 (upTo z n f) k g ∙ upTo-above k h
+
+    -- sixteen entries that are f k below n and z from there on are the row
+    pub row-ext : (l : List A) → length l ≡ 16 → ((k : ℕ) → k < 16 → getD l k z ≡ upTo z n f k) → l ≡ row z n f
+    unfolding row
+    row-ext l hl h =
+        ext-getD z l (tab 16 (upTo z n f)) (hl ∙ sym (length-tab 16 (upTo z n f)))
+        (λ k hk. let b : k < 16 = omega arith in h k b ∙ sym (getD-tab 16 (upTo z n f) k b))
+
+  -- one entry more changes no other
+  upTo-next : (n : ℕ) (f : ℕ → A) (k : ℕ) → (k ≡ n → ⊥) → upTo z n f k ≡ upTo z (n + 1) f k
+  upTo-next n f k ne = at (decLt k n)
+    where
+      at : Dec (k < n) → upTo z n f k ≡ upTo z (n + 1) f k
+      at (yes h) = upTo-below n f k h ∙ sym (upTo-below (n + 1) f k (omega arith))
+      at (no h) = upTo-above n f k (omega arith) ∙ sym (upTo-above (n + 1) f k (omega arith))
+
+  row-next : (n : ℕ) (f : ℕ → A) → n < 16 → set (row z n f) n (f n) ≡ row z (n + 1) f
+  unfolding row
+  row-next n f hn =
+      row-ext (n + 1) f (set (row z n f) n (f n)) (length-set (row z n f) n (f n) ∙ length-row n f)
+      (λ k hk. at k hk (ℕ-discrete k n))
+    where
+      at : (k : ℕ) → k < 16 → Dec (k ≡ n) → getD (set (row z n f) n (f n)) k z ≡ upTo z (n + 1) f k
+      at k hk (yes e) =
+          rw e
+          (getD-set-same (row z n f) n (f n) z (rw length-row hn)
+          ∙ sym (upTo-below (n + 1) f n (omega arith)))
+      at k hk (no ne) =
+          getD-set-other (row z n f) n k (f n) z ne
+          ∙ getD-tab 16 (upTo z n f) k hk
+          ∙ upTo-next n f k ne
+
+  -- a row depends on f below n alone
+  pub row-cong : (n : ℕ) (f g : ℕ → A) → ((k : ℕ) → k < n → f k ≡ g k) → row z n f ≡ row z n g
+  unfolding row
+  row-cong n f g h = row-ext n g (row z n f) (length-row n f) (λ k b. getD-tab 16 (upTo z n f) k b ∙ at k (decLt k n))
+    where
+      at : (k : ℕ) → Dec (k < n) → upTo z n f k ≡ upTo z n g k
+      at k (yes b) = upTo-below n f k b ∙ h k b ∙ sym (upTo-below n g k b)
+      at k (no b) = upTo-above n f k (omega arith) ∙ sym (upTo-above n g k (omega arith))
+
+-- A loop that fills a row from the front: the first k of n entries are there.
+pub record Filled {A : Type 0} (z : A) (n : ℕ) (f : ℕ → A) (l : List A) (k : ℕ) : Type 0 where
+  pub top : k ≤ n
+  pub few : n ≤ 16
+  pub is : l ≡ row z k f
+
+pub fill-start : {A : Type 0} (z : A) (n : ℕ) (f : ℕ → A) → n ≤ 16 → Filled z n f (replicate 16 z) 0
+unfolding row tab upTo
+fill-start z n f h = record { top = omega arith; few = h; is = refl }
+
+module _ {A : Type 0} {z : A} {n : ℕ} {f : ℕ → A} {l : List A} {k : ℕ} where
+  pub fill-next : {v : A} → Filled z n f l k → k < n → v ≡ f k → Filled z n f (set l k v) (k + 1)
+  fill-next s h e = record {
+    top = omega arith;
+    few = s .few;
+    is = rw (s .is, e) (row-next z k f (omega (arith, s .few)));
+  }
+
+  pub fill-done : Filled z n f l k → n ≤ k → l ≡ row z n f
+  fill-done s h = let e : k ≡ n = omega (arith, s .top) in rw e at (s .is)

@@ -1,0 +1,33 @@
+-- A turn of Euclid's algorithm keeps the greatest common divisor; the remainder falls.
+use borrow.Author.Needs.{needs}
+use native.Mathlib.Omega.{arith}
+use mathlib.Core.Path.{_≡_, refl, sym, _∙_, ap}
+use native.Mathlib.Nat.{mod-lt, pos-of-ne-zero}
+use Rattle.numbers.specs.Multiples.{gcd}
+use Rattle.numbers.proofs.MultipleLaws.{gcd-step, gcd-zero}
+use Rattle.numbers.proofs.gcd.Statement.{statement}
+use Rattle.numbers.proofs.gcd.Tie as tie
+
+abbrev Inv-loop : tie.InvT-loop
+Inv-loop a b x₀ y₀ x y = gcd a b ≡ gcd x y
+
+abbrev μ-loop : tie.MeasureT-loop
+μ-loop a b x₀ y₀ x y = y
+
+loop-holds : tie.Need-loop-holds Inv-loop μ-loop
+loop-holds c = refl
+
+rem-t : tie.Need-rem-t Inv-loop μ-loop
+rem-t c = pos-of-ne-zero (c .loop-test .taken)
+
+loop-less : tie.Need-loop-less Inv-loop μ-loop
+loop-less c = mod-lt _ (pos-of-ne-zero (c .loop-test .taken))
+
+loop-again : tie.Need-loop-again Inv-loop μ-loop
+loop-again c = c .before .loop .inv ∙ gcd-step _ _ (pos-of-ne-zero (c .loop-test .taken))
+
+returns : tie.Need-returns Inv-loop μ-loop
+returns c = sym (c .before .loop .inv ∙ ap (gcd _) (c .loop-test .left) ∙ gcd-zero _)
+
+pub gcd-spec : {M : Type 1} → statement M
+gcd-spec = tie.close (tie.spec Inv-loop μ-loop loop-holds rem-t loop-less loop-again returns)

@@ -1,0 +1,6 @@
+pub mod Bounds
+pub mod First
+pub mod Rows
+pub mod Multiples
+pub mod Sums
+pub mod Sorting

@@ -1,0 +1,86 @@
+-- Laws of tests made in order.
+use Prim.Native.Nat.{ℕ, zero, suc}
+use mathlib.Core.Path.{_≡_, refl, sym, _∙_, ap, ap₂}
+use mathlib.Core.Bool.{Bool, true, false, not}
+use lib.Dec.{eqb}
+use mathlib.Core.Logic.{_⊎_, inl, inr}
+use native.Mathlib.Omega.{arith}
+use borrow.Author.Tests.{ne-eqb}
+use Rattle.refusal.specs.Tests.{_then_, refuseIf, refuseAt}
+use Rattle.refusal.specs.declared.Cause.{Cause}
+use Rattle.refusal.specs.declared.Outcome.{Outcome}
+use Rattle.refusal.specs.declared.Outcome.the-variants.{Accepted, Refused}
+
+-- an outcome is an acceptance or a refusal, and not both
+pub accepted≢refused : {o : Outcome} {c : Cause} → o ≡ Accepted → o ≡ Refused c → ⊥
+accepted≢refused p q = let z : _≡_ {A = ℕ} 0 1 = cc in omega arith
+
+pub outcome-cases : (o : Outcome) → (o ≡ Accepted) ⊎ ((c : Cause) × (o ≡ Refused c))
+outcome-cases Accepted = inl refl
+outcome-cases (Refused c) = inr (c, refl)
+
+pub same-cause : {o : Outcome} {c d : Cause} → o ≡ Refused c → o ≡ Refused d → c ≡ d
+same-cause p q = cc
+
+-- two tests accept if each does
+pub then-accepted : (a b : Outcome) → a then b ≡ Accepted → (a ≡ Accepted) × (b ≡ Accepted)
+unfolding _then_
+then-accepted Accepted b e = (refl, e)
+then-accepted (Refused c) b e = absurd (accepted≢refused e refl)
+
+-- where they refuse, the first does, or the first accepts and the second refuses
+pub then-cases : (a b : Outcome) (c : Cause) → a then b ≡ Refused c → (a ≡ Refused c) ⊎ ((a ≡ Accepted) × (b ≡ Refused c))
+unfolding _then_
+then-cases Accepted b c e = inr (refl, e)
+then-cases (Refused d) b c e = inl e
+
+pub then-first : (a b : Outcome) → a ≡ Accepted → a then b ≡ b
+unfolding _then_
+then-first a b e = rw e
+
+pub then-refused : (a b : Outcome) (c : Cause) → a ≡ Refused c → a then b ≡ Refused c
+unfolding _then_
+then-refused a b c e = rw e
+
+-- a test whose condition is computed
+pub refuseIf-accepted : (t : Bool) (c : Cause) → refuseIf t c ≡ Accepted → t ≡ false
+unfolding refuseIf
+refuseIf-accepted true c e = absurd (accepted≢refused e refl)
+refuseIf-accepted false c e = refl
+
+pub refuseIf-refused : (t : Bool) (c d : Cause) → refuseIf t c ≡ Refused d → (t ≡ true) × (c ≡ d)
+unfolding refuseIf
+refuseIf-refused true c d e = (refl, same-cause refl e)
+refuseIf-refused false c d e = absurd (accepted≢refused refl e)
+
+pub refuseIf-true : (t : Bool) (c : Cause) → t ≡ true → refuseIf t c ≡ Refused c
+unfolding refuseIf
+refuseIf-true t c e = rw e
+
+pub refuseIf-false : (t : Bool) (c : Cause) → t ≡ false → refuseIf t c ≡ Accepted
+unfolding refuseIf
+refuseIf-false t c e = rw e
+
+-- a test that looks for a place
+pub refuseAt-accepted : (k : ℕ) (c : ℕ → Cause) → refuseAt k c ≡ Accepted → k ≡ 0
+unfolding refuseAt
+refuseAt-accepted zero c e = refl
+refuseAt-accepted (suc k) c e = absurd (accepted≢refused e refl)
+
+pub refuseAt-refused : (k : ℕ) (c : ℕ → Cause) (d : Cause) → refuseAt k c ≡ Refused d → (j : ℕ) × (k ≡ suc j) × (c (suc j) ≡ d)
+unfolding refuseAt
+refuseAt-refused zero c d e = absurd (accepted≢refused refl e)
+refuseAt-refused (suc k) c d e = (k, refl, same-cause refl e)
+
+pub refuseAt-zero : (k : ℕ) (c : ℕ → Cause) → k ≡ 0 → refuseAt k c ≡ Accepted
+unfolding refuseAt
+refuseAt-zero k c e = rw e
+
+-- The steps of a program that makes its tests first and joins them.
+pub refuse-at : (k : ℕ) (c : ℕ → Cause) → refuseIf (not (eqb k 0)) (c k) ≡ refuseAt k c
+unfolding refuseIf refuseAt
+refuse-at zero c = refl
+refuse-at (suc k) c = rw (ne-eqb (suc k) 0 (λ e. omega arith))
+
+pub then-by : {a b x y r : Outcome} → r ≡ a then b → a ≡ x → b ≡ y → r ≡ x then y
+then-by e p q = e ∙ ap₂ _then_ p q

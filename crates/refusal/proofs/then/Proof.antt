@@ -1,0 +1,22 @@
+-- `then` is the definition, case by case.
+use borrow.Author.Needs.{needs}
+use Rattle.refusal.specs.Tests.{_then_}
+use Rattle.refusal.proofs.then.Statement.{statement}
+use Rattle.refusal.proofs.then.Tie as tie
+
+enum-told : tie.Need-enum-told
+enum-told c = search needs
+
+enum-known-first : tie.Need-enum-known-first
+enum-known-first c = search needs
+
+returns : tie.Need-returns
+unfolding _then_
+returns c = cc
+
+returns-2 : tie.Need-returns-2
+unfolding _then_
+returns-2 c = cc
+
+pub then-spec : {M : Type 1} → statement M
+then-spec = tie.close (tie.spec enum-told enum-known-first returns returns-2)

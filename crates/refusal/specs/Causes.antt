@@ -1,0 +1,34 @@
+-- The paper's number and place of each cause of refusal.
+use Prim.Native.Nat.{ℕ}
+use Rattle.refusal.specs.declared.Cause.{Cause}
+use Rattle.refusal.specs.declared.Cause.the-variants.{TooShort, TaskCount, CoreCount, Length, Period, Budget, Hyperperiod, Buffer, Placement, CoreNumber, Overload, Slot}
+
+-- the number of a cause
+abbrev pub numberOf : Cause → ℕ
+numberOf TooShort = 1
+numberOf TaskCount = 2
+numberOf CoreCount = 3
+numberOf Length = 4
+numberOf (Period task) = 5
+numberOf (Budget task) = 6
+numberOf (Hyperperiod task) = 7
+numberOf Buffer = 8
+numberOf (Placement task) = 9
+numberOf CoreNumber = 10
+numberOf Overload = 11
+numberOf (Slot slot) = 12
+
+-- its place, the first such task or slot counted from 1; 0 where the paper names none
+abbrev pub placeOf : Cause → ℕ
+placeOf TooShort = 0
+placeOf TaskCount = 0
+placeOf CoreCount = 0
+placeOf Length = 0
+placeOf (Period task) = task
+placeOf (Budget task) = task
+placeOf (Hyperperiod task) = task
+placeOf Buffer = 0
+placeOf (Placement task) = task
+placeOf CoreNumber = 0
+placeOf Overload = 0
+placeOf (Slot slot) = slot

@@ -1,0 +1,22 @@
+-- Tests made in order: the first whose condition holds gives the refusal.
+use Prim.Native.Nat.{ℕ, zero, suc}
+use mathlib.Core.Bool.{Bool, true, false}
+use Rattle.refusal.specs.declared.Cause.{Cause}
+use Rattle.refusal.specs.declared.Outcome.{Outcome}
+use Rattle.refusal.specs.declared.Outcome.the-variants.{Accepted, Refused}
+
+infixr 30 _then_
+-- the outcome of the first test, or of the second if the first refuses nothing
+unfoldable pub _then_ : Outcome → Outcome → Outcome
+Accepted then second = second
+(Refused cause) then second = Refused cause
+
+-- refused if the condition of the cause holds
+unfoldable pub refuseIf : Bool → Cause → Outcome
+refuseIf true cause = Refused cause
+refuseIf false cause = Accepted
+
+-- refused if a place is named: 0 names none
+unfoldable pub refuseAt : ℕ → (ℕ → Cause) → Outcome
+refuseAt zero cause = Accepted
+refuseAt (suc k) cause = Refused (cause (suc k))
