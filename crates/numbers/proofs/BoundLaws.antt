@@ -1,11 +1,11 @@
 -- Laws of ranges.
 use Prim.Native.Nat.{ℕ, _≤_, _<_}
 use mathlib.Core.Path.{_≡_, refl}
-use mathlib.Core.Bool.{Bool, true, false, _||_, true≢false, false≢true}
+use mathlib.Core.Bool.{Bool, true, false, _||_, true≢false}
 use mathlib.Core.Logic.{_⊎_, inl, inr}
 use lib.Dec.{ltb}
 use native.Mathlib.Omega.{arith}
-use borrow.Author.Tests.{ltb-true, ltb-false, lt-ltb, le-ltb}
+use borrow.Author.Tests.{ltb-true, ltb-false, lt-ltb}
 use Rattle.numbers.specs.Bounds.{outside, Outside}
 
 or-cases : (a b : Bool) → (a || b) ≡ true → (a ≡ true) ⊎ (b ≡ true)
@@ -31,5 +31,10 @@ pub outside-not-inside : {lo hi x : ℕ} → Outside lo hi x → lo ≤ x → x 
 outside-not-inside (inl p) h g = omega arith
 outside-not-inside (inr p) h g = omega arith
 
-pub inside-test : (lo hi x : ℕ) → lo ≤ x → x ≤ hi → outside lo hi x ≡ false
-inside-test lo hi x h g = rw (le-ltb x lo h, le-ltb hi x g)
+pub outside-is : (lo hi x : ℕ) → Outside lo hi x → outside lo hi x ≡ true
+outside-is lo hi x (inl p) = rw (lt-ltb x lo p)
+outside-is lo hi x (inr p) = go (ltb x lo) refl
+  where
+    go : (a : Bool) → ltb x lo ≡ a → outside lo hi x ≡ true
+    go true e = rw e
+    go false e = rw (e, lt-ltb hi x p)

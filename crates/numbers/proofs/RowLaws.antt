@@ -102,5 +102,9 @@ module _ {A : Type 0} {z : A} {n : ℕ} {f : ℕ → A} {l : List A} {k : ℕ} w
     is = rw (s .is, e) (row-next z k f (omega (arith, s .few)));
   }
 
+  -- the same, where a call returns the row with one entry changed
+  pub fill-with : {r : List A} {v : A} → Filled z n f l k → k < n → r ≡ set l k v → v ≡ f k → Filled z n f r (k + 1)
+  fill-with s h e q = rw e (fill-next s h q)
+
   pub fill-done : Filled z n f l k → n ≤ k → l ≡ row z n f
   fill-done s h = let e : k ≡ n = omega (arith, s .top) in rw e at (s .is)

@@ -17,3 +17,7 @@ pub record IsFirst (P : ℕ → Type 0) (n k : ℕ) : Type 0 where
   pub below : k < n
   pub here : P k
   pub none : (j : ℕ) → j < k → P j → ⊥
+
+-- t, counted from 1, is the first such place
+abbrev pub FirstAt : (ℕ → Type 0) → ℕ → ℕ → Type 0
+FirstAt P n t = (k : ℕ) × (t ≡ suc k) × IsFirst P n k

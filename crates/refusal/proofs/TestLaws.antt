@@ -1,12 +1,13 @@
 -- Laws of tests made in order.
 use Prim.Native.Nat.{ℕ, zero, suc}
 use mathlib.Core.Path.{_≡_, refl, sym, _∙_, ap, ap₂}
+use mathlib.Core.List.{List, [], _∷_}
 use mathlib.Core.Bool.{Bool, true, false, not}
 use lib.Dec.{eqb}
 use mathlib.Core.Logic.{_⊎_, inl, inr}
 use native.Mathlib.Omega.{arith}
 use borrow.Author.Tests.{ne-eqb}
-use Rattle.refusal.specs.Tests.{_then_, refuseIf, refuseAt}
+use Rattle.refusal.specs.Tests.{_then_, refuseIf, refuseAt, inOrder}
 use Rattle.refusal.specs.declared.Cause.{Cause}
 use Rattle.refusal.specs.declared.Outcome.{Outcome}
 use Rattle.refusal.specs.declared.Outcome.the-variants.{Accepted, Refused}
@@ -76,11 +77,23 @@ pub refuseAt-zero : (k : ℕ) (c : ℕ → Cause) → k ≡ 0 → refuseAt k c �
 unfolding refuseAt
 refuseAt-zero k c e = rw e
 
--- The steps of a program that makes its tests first and joins them.
-pub refuse-at : (k : ℕ) (c : ℕ → Cause) → refuseIf (not (eqb k 0)) (c k) ≡ refuseAt k c
+-- The steps of a program that makes its tests and joins them.
+refuse-at : (k : ℕ) (c : ℕ → Cause) → refuseIf (not (eqb k 0)) (c k) ≡ refuseAt k c
 unfolding refuseIf refuseAt
 refuse-at zero c = refl
 refuse-at (suc k) c = rw (ne-eqb (suc k) 0 (λ e. omega arith))
 
-pub then-by : {a b x y r : Outcome} → r ≡ a then b → a ≡ x → b ≡ y → r ≡ x then y
-then-by e p q = e ∙ ap₂ _then_ p q
+pub refuse-at-by : (c : ℕ → Cause) {k w : ℕ} {r : Outcome} → r ≡ refuseIf (not (eqb k 0)) (c k) → k ≡ w → r ≡ refuseAt w c
+refuse-at-by c {k} e d = e ∙ refuse-at k c ∙ ap (λ x. refuseAt x c) d
+
+pub order-step : {t o x r : Outcome} (ts : List Outcome) → r ≡ t then o → t ≡ x → o ≡ inOrder ts → r ≡ inOrder (x ∷ ts)
+unfolding inOrder
+order-step ts e p q = e ∙ ap₂ _then_ p q
+
+pub order-last : {t x : Outcome} → t ≡ x → t ≡ inOrder (x ∷ [])
+unfolding inOrder _then_
+order-last {t} {x} e = e ∙ go x
+  where
+    go : (x : Outcome) → x ≡ x then Accepted
+    go Accepted = refl
+    go (Refused c) = refl

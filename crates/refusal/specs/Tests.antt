@@ -1,6 +1,7 @@
 -- Tests made in order: the first whose condition holds gives the refusal.
 use Prim.Native.Nat.{ℕ, zero, suc}
 use mathlib.Core.Bool.{Bool, true, false}
+use mathlib.Core.List.{List, [], _∷_}
 use Rattle.refusal.specs.declared.Cause.{Cause}
 use Rattle.refusal.specs.declared.Outcome.{Outcome}
 use Rattle.refusal.specs.declared.Outcome.the-variants.{Accepted, Refused}
@@ -20,3 +21,8 @@ refuseIf false cause = Accepted
 unfoldable pub refuseAt : ℕ → (ℕ → Cause) → Outcome
 refuseAt zero cause = Accepted
 refuseAt (suc k) cause = Refused (cause (suc k))
+
+-- the outcome of all tests of a list, made in order
+unfoldable pub inOrder : List Outcome → Outcome
+inOrder [] = Accepted
+inOrder (test ∷ tests) = test then inOrder tests

@@ -1,0 +1,124 @@
+-- The hyperperiod and the demands of fields within the limits are exact; and the steps of the loop that takes the running multiple.
+use Prim.Native.Nat.{ℕ, zero, suc, _+_, _*_, _/_, _≤_, _<_, _∣_}
+use mathlib.Core.Path.{_≡_, refl, sym, _∙_, ap}
+use mathlib.Core.Bool.{Bool, true, false, cond}
+use lib.Dec.{ltb, eqb}
+use native.Mathlib.Omega.{arith}
+use native.Mathlib.Numerals.{add-one}
+use native.Mathlib.Nat.{mul-div-assoc, mul-le-mul-right, mul-le-mul-left, mul-div-le, div-mul-cancel, dvd-mul-left-of-dvd, le-trans, le-of-dvd, le-div-iff-mul-le, one-mul, mul-one, mul-pos}
+use borrow.Author.Tests.{lt-ltb, le-ltb, ltb-false, eq-eqb, ne-eqb}
+use Rattle.numbers.specs.First.{first}
+use Rattle.numbers.specs.Rows.{row}
+use Rattle.numbers.specs.Multiples.{lcm, lcms, IsLcm}
+use Rattle.numbers.proofs.FirstLaws.{Seeking, seek-start, seek-none, looked-on, looked-found, first-clear}
+use Rattle.numbers.proofs.MultipleLaws.{lcms-is, lcms-mono}
+use Rattle.numbers.proofs.RowLaws.{getD-row}
+use Rattle.taskset.specs.Fields.{periodAt, budgetAt}
+use Rattle.taskset.specs.Demands.{multipleTo, hyperperiodOf, demandOf}
+use Rattle.taskset.specs.Refusals.{passes}
+use Rattle.taskset.specs.Reading.{multipleOf, taskSetOf}
+use Rattle.taskset.specs.Limits.{Sized, Within, Exact}
+use Rattle.taskset.specs.declared.Fields.{Fields}
+use Rattle.taskset.specs.declared.Multiple.{Multiple}
+
+-- The loop over the periods: h is the least common multiple of the first k, and none of them has passed 1,000,000.
+pub record Multiplying (f : Fields) (k h : ℕ) : Type 0 where
+  pub few : f .n ≤ 16
+  pub seeking : Seeking (passes f) (f .n) k
+  pub is : h ≡ multipleTo f k
+  pub small : h ≤ 1000000
+
+pub multiply-start : (f : Fields) → f .n ≤ 16 → Multiplying f 0 1
+unfolding multipleTo lcms
+multiply-start f h = record { few = h; seeking = seek-start (passes f) (f .n); is = refl; small = omega arith }
+
+module _ {f : Fields} {k h : ℕ} (m : Multiplying f k h) (below : k < f .n) (v : ℕ) (e : v ≡ lcm h (periodAt f k)) where
+  next-is : v ≡ multipleTo f (k + 1)
+  unfolding multipleTo lcms
+  next-is = rw add-one (e ∙ ap (λ x. lcm x (periodAt f k)) (m .is))
+
+  pub multiply-next : v ≤ 1000000 → Multiplying f (k + 1) v
+  unfolding passes
+  multiply-next s = record {
+    few = m .few;
+    seeking = looked-on {p = passes f} {r = false} (m .seeking) below (sym (rw (← next-is) (le-ltb 1000000 v s))) refl;
+    is = next-is;
+    small = s;
+  }
+
+  pub multiply-passed : 1000000 < v → _≡_ {A = Multiple} (record { passed = k + 1; value = 0 }) (multipleOf f)
+  unfolding passes multipleOf
+  multiply-passed s =
+      let p : k + 1 ≡ first (passes f) (f .n) =
+      looked-found {p = passes f} {r = true} (m .seeking) below (sym (rw (← next-is) (lt-ltb 1000000 v s))) refl in
+      let q : 0 ≡ cond (eqb (first (passes f) (f .n)) 0) (hyperperiodOf f) 0 =
+      rw (ne-eqb (first (passes f) (f .n)) 0 (λ z. omega (arith, p))) in
+      λ i. record { passed = p i; value = q i }
+
+pub multiply-done : {f : Fields} {k h : ℕ} → Multiplying f k h → f .n ≤ k → _≡_ {A = Multiple} (record { passed = 0; value = h }) (multipleOf f)
+unfolding multipleOf hyperperiodOf
+multiply-done {f} {k} {h} m g =
+    let d : k ≡ f .n = omega (arith, m .seeking .top) in
+    let p : 0 ≡ first (passes f) (f .n) = seek-none (m .seeking) g in
+    let q : h ≡ cond (eqb (first (passes f) (f .n)) 0) (multipleTo f (f .n)) 0 =
+    rw (eq-eqb (first (passes f) (f .n)) 0 (sym p)) (rw d at (m .is)) in
+    λ i. record { passed = p i; value = q i }
+
+module _ {f : Fields} (w : Within f) where
+  -- the hyperperiod is the least common multiple of the periods
+  pub hyperperiod-is : IsLcm (periodAt f) (f .n) (hyperperiodOf f)
+  unfolding hyperperiodOf multipleTo
+  hyperperiod-is = lcms-is (periodAt f) (f .n) (λ k h. w .periods k h .0)
+
+  module _ {k : ℕ} (below : k < f .n) where
+    -- the division is exact
+    pub demand-exact : demandOf f k * periodAt f k ≡ budgetAt f k * hyperperiodOf f
+    unfolding demandOf
+    demand-exact =
+        div-mul-cancel (periodAt f k)
+        (dvd-mul-left-of-dvd (periodAt f k) (hyperperiod-is .multiple k below) (budgetAt f k))
+
+    -- so it can be made first
+    pub demand-by : (h : ℕ) → h ≡ hyperperiodOf f → budgetAt f k * (h / periodAt f k) ≡ demandOf f k
+    unfolding demandOf
+    demand-by h e = rw e (sym (mul-div-assoc (periodAt f k) (budgetAt f k) (hyperperiod-is .multiple k below)))
+
+    demand-le : demandOf f k ≤ hyperperiodOf f
+    demand-le =
+        rw (← demand-by (hyperperiodOf f) refl)
+        (le-trans (mul-le-mul-right (hyperperiodOf f / periodAt f k) (w .budgets k below .1))
+        (mul-div-le (hyperperiodOf f) (periodAt f k)))
+
+    demand-pos : 1 ≤ demandOf f k
+    demand-pos =
+        rw (← demand-by (hyperperiodOf f) refl)
+        (mul-pos (w .budgets k below .0)
+        (le-div-iff-mul-le {x = 1} (w .periods k below .0) .1
+        (rw one-mul (le-of-dvd (hyperperiod-is .positive) (hyperperiod-is .multiple k below)))))
+
+    pub demand-range : (1 ≤ demandOf f k) × (demandOf f k ≤ hyperperiodOf f)
+    demand-range = (demand-pos, demand-le)
+
+    pub demand-fits : (h : ℕ) → h ≡ hyperperiodOf f → budgetAt f k * (h / periodAt f k) ≤ 1000000
+    demand-fits h e = rw (demand-by h e) (le-trans demand-le (w .multiple))
+
+  -- the task set is exact
+  pub taskSet-exact : Exact (taskSetOf f)
+  unfolding taskSetOf
+  taskSet-exact = record {
+    hyperperiod = hyperperiod-is;
+    demand = λ k h. rw (getD-row 0 (f .n) (demandOf f) k h (w .sizes .tasks .1)) (demand-exact h);
+    range = λ k h. rw (getD-row 0 (f .n) (demandOf f) k h (w .sizes .tasks .1)) (demand-range h);
+  }
+
+  -- no multiple on the way passes the bound
+  pub passes-none : first (passes f) (f .n) ≡ 0
+  unfolding passes hyperperiodOf multipleTo
+  passes-none =
+      first-clear (passes f) (f .n)
+      (λ k h. le-ltb 1000000 (lcms (periodAt f) (k + 1))
+      (le-trans (lcms-mono (periodAt f) (k + 1) (f .n) (omega arith) (λ j g. w .periods j g .0)) (w .multiple)))
+
+  pub multiple-value : (r : Multiple) → r ≡ multipleOf f → r .value ≡ hyperperiodOf f
+  unfolding multipleOf
+  multiple-value r e = ap (λ x. x .value) e ∙ rw passes-none

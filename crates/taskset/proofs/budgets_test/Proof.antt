@@ -1,0 +1,18 @@
+-- The first bad budget gives the place.
+use Rattle.refusal.proofs.TestLaws.{refuse-at-by}
+use Rattle.refusal.specs.declared.Cause.the-variants.{Budget}
+use borrow.Author.Needs.{needs}
+use Rattle.taskset.proofs.budgets_test.Statement.{statement}
+use Rattle.taskset.proofs.budgets_test.Tie as tie
+
+first-bad-budget-requires : tie.Need-first-bad-budget-requires
+first-bad-budget-requires c κs = search needs
+
+refuse-if-requires : tie.Need-refuse-if-requires
+refuse-if-requires c κs = search needs
+
+returns : tie.Need-returns
+returns c = refuse-at-by Budget (c .refuse-if .ensures) (c .before .first-bad-budget .ensures)
+
+pub budgets-test-spec : {M : Type 1} → statement M
+budgets-test-spec = tie.close (tie.spec first-bad-budget-requires refuse-if-requires returns)

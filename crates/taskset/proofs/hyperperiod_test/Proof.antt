@@ -1,0 +1,21 @@
+-- The task at which the multiple passes gives the place.
+use mathlib.Core.Path.{ap}
+use Rattle.refusal.proofs.TestLaws.{refuse-at-by}
+use Rattle.refusal.specs.declared.Cause.the-variants.{Hyperperiod}
+use Rattle.taskset.specs.Reading.{multipleOf}
+use borrow.Author.Needs.{needs}
+use Rattle.taskset.proofs.hyperperiod_test.Statement.{statement}
+use Rattle.taskset.proofs.hyperperiod_test.Tie as tie
+
+common-multiple-requires : tie.Need-common-multiple-requires
+common-multiple-requires c κs = search needs
+
+refuse-if-requires : tie.Need-refuse-if-requires
+refuse-if-requires c κs = search needs
+
+returns : tie.Need-returns
+unfolding multipleOf
+returns c = refuse-at-by Hyperperiod (c .refuse-if .ensures) (ap (λ m. m .passed) (c .before .common-multiple .ensures))
+
+pub hyperperiod-test-spec : {M : Type 1} → statement M
+hyperperiod-test-spec = tie.close (tie.spec common-multiple-requires refuse-if-requires returns)

@@ -1,0 +1,6 @@
+pub mod Bytes
+pub mod Fields
+pub mod Demands
+pub mod Refusals
+pub mod Reading
+pub mod Limits
