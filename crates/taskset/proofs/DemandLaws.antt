@@ -78,20 +78,20 @@ module _ {f : Fields} (w : Within f) where
         div-mul-cancel (periodAt f k)
         (dvd-mul-left-of-dvd (periodAt f k) (hyperperiod-is .multiple k below) (budgetAt f k))
 
-    -- so it can be made first
-    pub demand-by : (h : ℕ) → h ≡ hyperperiodOf f → budgetAt f k * (h / periodAt f k) ≡ demandOf f k
+    -- so it can be made first: j jobs, of the budget each
+    pub demand-by : {h j : ℕ} → h ≡ hyperperiodOf f → j ≡ h / periodAt f k → budgetAt f k * j ≡ demandOf f k
     unfolding demandOf
-    demand-by h e = rw e (sym (mul-div-assoc (periodAt f k) (budgetAt f k) (hyperperiod-is .multiple k below)))
+    demand-by e q = rw (q, e) (sym (mul-div-assoc (periodAt f k) (budgetAt f k) (hyperperiod-is .multiple k below)))
 
     demand-le : demandOf f k ≤ hyperperiodOf f
     demand-le =
-        rw (← demand-by (hyperperiodOf f) refl)
+        rw (← demand-by refl refl)
         (le-trans (mul-le-mul-right (hyperperiodOf f / periodAt f k) (w .budgets k below .1))
         (mul-div-le (hyperperiodOf f) (periodAt f k)))
 
     demand-pos : 1 ≤ demandOf f k
     demand-pos =
-        rw (← demand-by (hyperperiodOf f) refl)
+        rw (← demand-by refl refl)
         (mul-pos (w .budgets k below .0)
         (le-div-iff-mul-le {x = 1} (w .periods k below .0) .1
         (rw one-mul (le-of-dvd (hyperperiod-is .positive) (hyperperiod-is .multiple k below)))))
@@ -99,8 +99,8 @@ module _ {f : Fields} (w : Within f) where
     pub demand-range : (1 ≤ demandOf f k) × (demandOf f k ≤ hyperperiodOf f)
     demand-range = (demand-pos, demand-le)
 
-    pub demand-fits : (h : ℕ) → h ≡ hyperperiodOf f → budgetAt f k * (h / periodAt f k) ≤ 1000000
-    demand-fits h e = rw (demand-by h e) (le-trans demand-le (w .multiple))
+    pub demand-fits : {h j : ℕ} → h ≡ hyperperiodOf f → j ≡ h / periodAt f k → budgetAt f k * j ≤ 1000000
+    demand-fits e q = rw (demand-by e q) (le-trans demand-le (w .multiple))
 
   -- the task set is exact
   pub taskSet-exact : Exact (taskSetOf f)

@@ -1,6 +1,6 @@
 // The reader of a stored table: bytes become an exact task set, or a refusal.
 ghost use mathlib.Core.Path.{_≡_};
-ghost use Prim.Native.Nat.{_+_, _≤_, _<_};
+ghost use Prim.Native.Nat.{_+_, _/_, _≤_, _<_};
 ghost use lib.ListN.{length, getD, set};
 ghost use Rattle.numbers.specs.First.{first};
 ghost use Rattle.numbers.specs.Rows.{row};
@@ -148,9 +148,12 @@ fn length_test(s: &[u8]) -> Outcome
 fn shape_tests(s: &[u8]) -> Outcome
     ensures { λ r. ⌜ r ≡ inOrder (shapeTests (now (s .entry))) ⌝ }
 {
-    let from_cores = refusal::then(cores_test(s), length_test(s));
-    let from_tasks = refusal::then(tasks_test(s), from_cores);
-    refusal::then(short_test(s), from_tasks)
+    let short = short_test(s);
+    let tasks = tasks_test(s);
+    let cores = cores_test(s);
+    let exact = length_test(s);
+    let sizes = refusal::then(tasks, refusal::then(cores, exact));
+    refusal::then(short, sizes)
 }
 
 // Whether the period of task `k` is outside 1 to 10,000.
@@ -166,7 +169,9 @@ fn is_bad_budget(f: Fields, k: usize) -> bool
     requires { ⌜ k < 16 ⌝ }
     ensures { λ r. ⌜ r ≡ badBudget f k ⌝ }
 {
-    numbers::outside(1, f.periods[k], f.budgets[k])
+    let period = f.periods[k];
+    let budget = f.budgets[k];
+    (budget < 1) | (period < budget)
 }
 
 // The first task, from 1, with a bad period; 0 if there is none.
@@ -255,8 +260,19 @@ fn limit_tests(f: Fields) -> Outcome
     requires { ⌜ f .n ≤ 16 ⌝ }
     ensures { λ r. ⌜ r ≡ inOrder (limitTests f) ⌝ }
 {
-    let from_budgets = refusal::then(budgets_test(f), hyperperiod_test(f));
-    refusal::then(periods_test(f), from_budgets)
+    let periods = periods_test(f);
+    let budgets = budgets_test(f);
+    let hyperperiod = hyperperiod_test(f);
+    let later = refusal::then(budgets, hyperperiod);
+    refusal::then(periods, later)
+}
+
+// How many jobs a task of this period releases in the hyperperiod `h`.
+fn jobs(h: u32, period: u32) -> u32
+    requires { ⌜ 0 < period ⌝ }
+    ensures { λ r. ⌜ r ≡ h / period ⌝ }
+{
+    h / period
 }
 
 // The demand of task `k` in the hyperperiod `h`. The division is exact, so it comes first.
@@ -264,8 +280,7 @@ fn demand(f: Fields, h: u32, k: usize) -> u32
     requires { ⌜ Within f × (h ≡ hyperperiodOf f) × (k < f .n) ⌝ }
     ensures { λ r. ⌜ r ≡ demandOf f k ⌝ }
 {
-    let period = f.periods[k];
-    f.budgets[k] * (h / period)
+    f.budgets[k] * jobs(h, f.periods[k])
 }
 
 // The demand of each task in the hyperperiod `h`, and zeros up to sixteen.
