@@ -1,0 +1,103 @@
+"""The plan of a table and a step limit, twice over: the best plan by trying all placements, and
+the steps and the stored placement by the walk. The two must agree on the complete walk."""
+
+from collections import namedtuple
+from functools import lru_cache
+from itertools import product
+
+from tables import Refusal, read_table
+
+ALL, SHORT, SPENT = 0, 1, 2
+
+# Up to here all placements are tried: at most 5^6 of them.
+MOST_TRIED = 6
+
+# placement: sixteen core numbers in table order, 0 for rejected (the paper's left out).
+Answer = namedtuple("Answer", "number place verdict rejected steps placement")
+
+
+def plan(table, limit):
+    """The Answer to these table bytes and this step limit."""
+    tasks = read_table(table)
+    if isinstance(tasks, Refusal):
+        return Answer(tasks.number, tasks.place, 0, 0, 0, [0] * 16)
+
+    if tasks.n <= MOST_TRIED:
+        check_complete_walk(table)
+    steps, placement, spent = steps_and_stored(tasks, limit)
+    rejected = demand_on(0, tasks.demands, placement)
+    verdict = SPENT if spent else SHORT if rejected > 0 else ALL
+    return Answer(0, 0, verdict, rejected, steps, placement + [0] * (16 - tasks.n))
+
+
+@lru_cache(maxsize=None)
+def check_complete_walk(table):
+    """The complete walk of an accepted table must end with the best plan."""
+    tasks = read_table(table)
+    steps, placement, spent = steps_and_stored(tasks, None)
+    assert placement == best_placement(tasks) and not spent
+
+
+def demand_on(choice, demands, placement):
+    """The load of a core, or for choice 0 the rejected demand."""
+    return sum(demand for demand, chosen in zip(demands, placement) if chosen == choice)
+
+
+# The best plan. Nothing here mentions the walk.
+
+def best_placement(tasks):
+    """Of all feasible placements the one that rejects least, and of these the first in order."""
+    cores = range(1, tasks.m + 1)
+
+    def feasible(placement):
+        return all(demand_on(core, tasks.demands, placement) <= tasks.hyperperiod
+                   for core in cores)
+
+    def rank(placement):
+        in_planning_order = [placement[task - 1] for task in tasks.order]
+        return (demand_on(0, tasks.demands, placement),
+                [tasks.m + 1 if choice == 0 else choice for choice in in_planning_order])
+
+    placements = product(range(tasks.m + 1), repeat=tasks.n)
+    return list(min(filter(feasible, placements), key=rank))
+
+
+# The walk.
+
+def walk(demands, m, hyperperiod):
+    """One item for each step: the placement, if the last task's choice was entered, or None.
+    Demands and placements are in planning order here."""
+    excess = max(0, sum(demands) - m * hyperperiod)
+    mark = sum(demands) + 1
+
+    def below(placed):
+        nonlocal mark
+        for choice in [*range(1, m + 1), 0]:
+            entered = placed + [choice]
+            if choice != 0 and demand_on(choice, demands, entered) > hyperperiod:
+                continue
+            if max(demand_on(0, demands, entered), excess) >= mark:
+                continue
+            if len(entered) < len(demands):
+                yield None
+                yield from below(entered)
+            else:
+                mark = demand_on(0, demands, entered)
+                yield entered
+
+    return below([])
+
+
+def steps_and_stored(tasks, limit):
+    """The steps made, the placement stored last by them, and whether the limit ran out.
+    Without a limit (None) the walk is complete."""
+    in_planning_order = [tasks.demands[task - 1] for task in tasks.order]
+    steps, stored, spent = 0, [0] * tasks.n, False
+    for placement in walk(in_planning_order, tasks.m, tasks.hyperperiod):
+        if steps == limit:
+            spent = True
+            break
+        steps += 1
+        stored = placement or stored
+    choice_of = dict(zip(tasks.order, stored))
+    return steps, [choice_of[task] for task in range(1, tasks.n + 1)], spent

@@ -1,0 +1,49 @@
+"""Holds the ordinary programs against rows a to l of the scope paper."""
+
+from cases import table_of
+from plans import ALL, SHORT, SPENT, plan
+from tables import Refusal, read_table
+from ticks import run_core
+
+FULL = [2**32 - 1] * 16
+ROW_C = table_of(1, [2, 3, 6], [1, 1, 1])
+
+
+def planned(m, periods, budgets, limit=1_000_000):
+    """Verdict, cores, rejected demand and steps."""
+    answer = plan(table_of(m, periods, budgets), limit)
+    cores = answer.placement[:len(periods)]
+    return answer.verdict, cores, answer.rejected, answer.steps
+
+
+def runs(all_requests):
+    return [answer.run for answer in run_core(ROW_C, [1, 1, 1], 1, all_requests)]
+
+
+TENS = [10] * 3
+ROWS = {
+    "a": planned(1, [10, 10], [3, 7]) == (ALL, [1, 1], 0, 2),
+    "b": planned(1, [10, 10], [3, 8]) == (SHORT, [0, 1], 3, 2),
+    "c": planned(1, [2, 3, 6], [1, 1, 1]) == (ALL, [1, 1, 1], 0, 3)
+         and read_table(ROW_C).hyperperiod == 6,
+    "d": planned(2, [10] * 5, [5, 5, 4, 3, 3]) == (ALL, [1, 1, 2, 2, 2], 0, 5),
+    "listing": planned(1, TENS, [7, 6, 4]) == (SHORT, [0, 1, 1], 7, 6),
+    "e": planned(1, TENS, [7, 6, 4], 6) == (SHORT, [0, 1, 1], 7, 6),
+    "f": planned(1, TENS, [7, 6, 4], 5) == (SPENT, [1, 0, 0], 10, 5),
+    "g": planned(1, TENS, [7, 6, 4], 0) == (SPENT, [0, 0, 0], 17, 0),
+    "h": runs([FULL] * 6) == [1, 2, 1, 2, 1, 3],
+    "i": runs([FULL] * 2 + [[0] + FULL[1:]] + [FULL] * 3) == [1, 2, 3, 2, 1, 0],
+    "j": read_table(table_of(1, [1000, 999], [1, 1])).hyperperiod == 999_000,
+    "k": read_table(table_of(1, [1000, 1001], [1, 1])) == Refusal(7, 2),
+    "l": read_table(bytes([1])) == Refusal(1, 0)
+         and read_table(bytes([17, 1])) == Refusal(2, 0)
+         and read_table(table_of(1, [10], [11])) == Refusal(6, 1),
+    "trap": planned(1, TENS, [7, 6, 3]) == (SHORT, [1, 0, 1], 6, 3),
+}
+
+if __name__ == "__main__":
+    failed = [row for row, holds in ROWS.items() if not holds]
+    for row in failed:
+        print("failed: row", row)
+    print(f"{len(ROWS)} rows, {len(failed)} failed")
+    raise SystemExit(1 if failed else 0)

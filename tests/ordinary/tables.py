@@ -1,0 +1,57 @@
+"""Reads a stored table: the refusal that the scope paper names, or the task set."""
+
+from collections import namedtuple
+from math import lcm
+
+MOST_TASKS = 16
+MOST_CORES = 4
+LONGEST_PERIOD = 10_000
+LARGEST_HYPERPERIOD = 1_000_000
+
+Refusal = namedtuple("Refusal", "number place")
+
+# budgets: the paper's times; hyperperiod: its frame H; demands: its weights.
+# order: task numbers from 1, in planning order.
+TaskSet = namedtuple("TaskSet", "n m periods budgets hyperperiod demands order")
+
+
+def read_table(table):
+    """The Refusal of these bytes, or their TaskSet."""
+    if len(table) < 2:
+        return Refusal(1, 0)
+    n, m = table[0], table[1]
+    if not 1 <= n <= MOST_TASKS:
+        return Refusal(2, 0)
+    if not 1 <= m <= MOST_CORES:
+        return Refusal(3, 0)
+    if len(table) != 2 + 8 * n:
+        return Refusal(4, 0)
+
+    periods = [word(table, 2 + 4 * k) for k in range(n)]
+    budgets = [word(table, 2 + 4 * n + 4 * k) for k in range(n)]
+
+    for k in range(n):
+        if not 1 <= periods[k] <= LONGEST_PERIOD:
+            return Refusal(5, k + 1)
+    for k in range(n):
+        if not 1 <= budgets[k] <= periods[k]:
+            return Refusal(6, k + 1)
+    for k in range(n):
+        if lcm(*periods[:k + 1]) > LARGEST_HYPERPERIOD:
+            return Refusal(7, k + 1)
+
+    hyperperiod = lcm(*periods)
+    demands = [exact(budgets[k] * hyperperiod, periods[k]) for k in range(n)]
+    order = sorted(range(1, n + 1), key=lambda task: (-demands[task - 1], task))
+    return TaskSet(n, m, periods, budgets, hyperperiod, demands, order)
+
+
+def word(table, at):
+    """The four bytes from `at`, lowest first."""
+    return int.from_bytes(table[at:at + 4], "little")
+
+
+def exact(total, parts):
+    """Division without a remainder."""
+    assert total % parts == 0
+    return total // parts
