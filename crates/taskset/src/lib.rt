@@ -269,7 +269,7 @@ fn limit_tests(f: Fields) -> Outcome
 
 // How many jobs a task of this period releases in the hyperperiod `h`.
 fn jobs(h: u32, period: u32) -> u32
-    requires { ⌜ 0 < period ⌝ }
+    requires { ⌜ (0 < period) × (h ≤ 1000000) ⌝ }
     ensures { λ r. ⌜ r ≡ h / period ⌝ }
 {
     h / period

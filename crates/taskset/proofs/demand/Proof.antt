@@ -18,7 +18,7 @@ element-copy-out-jobs : tie.Need-element-copy-out-jobs
 element-copy-out-jobs c = search needs
 
 jobs-requires : tie.Need-jobs-requires
-jobs-requires c κs = let p = c .before .before .pre in p .0 .periods _ (p .2) .0
+jobs-requires c κs = let p = c .before .before .pre in (p .0 .periods _ (p .2) .0, rw (p .1) (p .0 .multiple))
 
 mul-result-2 : tie.Need-mul-result-2
 mul-result-2 c = let p = c .before .before .before .pre in fits-below tt (demand-fits (p .0) (p .2) (p .1) (c .jobs .ensures))
