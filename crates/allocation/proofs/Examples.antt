@@ -1,0 +1,49 @@
+-- Worked examples, by computation. Demands are in planning order.
+use Prim.Native.Nat.{ℕ}
+use mathlib.Core.Path.{_≡_, refl}
+use mathlib.Core.Bool.{Bool, true, false}
+use mathlib.Core.List.{List, [], _∷_, map}
+use Rattle.numbers.specs.Sums.{sumOver}
+use Rattle.allocation.specs.Placement.{demandOn}
+use Rattle.allocation.specs.Walk.{Answer, answer, every, trace, stored, visit, tryAll, entered, boundAfter, storedAfter, stepInto, choices, upFrom}
+
+record Example : Type 0 where
+  capacity : ℕ
+  cores : ℕ
+  demands : List ℕ
+  limit : ℕ
+  expected : Answer
+
+example : ℕ → ℕ → List ℕ → ℕ → Answer → Example
+example capacity cores demands limit expected =
+    record { capacity = capacity; cores = cores; demands = demands; limit = limit; expected = expected }
+
+reply : List ℕ → ℕ → ℕ → Bool → Answer
+reply placement rejected steps spent = record { placement = placement; rejected = rejected; steps = steps; spent = spent }
+
+examples : List Example
+examples =
+    -- rows a and b
+    example 10 1 (7 ∷ 3 ∷ []) 1000000 (reply (1 ∷ 1 ∷ []) 0 2 false)
+    ∷ example 10 1 (8 ∷ 3 ∷ []) 1000000 (reply (1 ∷ 0 ∷ []) 3 2 false)
+    -- row d: no full placement has the two heaviest tasks on separate cores
+    ∷ example 10 2 (5 ∷ 5 ∷ 4 ∷ 3 ∷ 3 ∷ []) 1000000 (reply (1 ∷ 1 ∷ 2 ∷ 2 ∷ 2 ∷ []) 0 5 false)
+    -- rows e, f and g: the limit is the walk's length, one less, and 0
+    ∷ example 10 1 (7 ∷ 6 ∷ 4 ∷ []) 6 (reply (0 ∷ 1 ∷ 1 ∷ []) 7 6 false)
+    ∷ example 10 1 (7 ∷ 6 ∷ 4 ∷ []) 5 (reply (1 ∷ 0 ∷ 0 ∷ []) 10 5 true)
+    ∷ example 10 1 (7 ∷ 6 ∷ 4 ∷ []) 0 (reply (0 ∷ 0 ∷ 0 ∷ []) 17 0 true)
+    -- without the heaviest task 7 would be rejected
+    ∷ example 10 1 (7 ∷ 6 ∷ 3 ∷ []) 1000000 (reply (1 ∷ 0 ∷ 1 ∷ []) 6 3 false)
+    -- the excess is 1, so the first plan that rejects 1 ends the walk
+    ∷ example 10 2 (5 ∷ 5 ∷ 5 ∷ 5 ∷ 1 ∷ []) 1000000 (reply (1 ∷ 1 ∷ 2 ∷ 2 ∷ 0 ∷ []) 1 5 false)
+    ∷ []
+
+answered : Example → Answer
+answered x = answer (record { capacity = x .capacity; cores = x .cores; demands = x .demands; permits = λ k c. true }) every (x .limit)
+
+expected : Example → Answer
+expected x = x .expected
+
+examples-hold : map answered examples ≡ map expected examples
+unfolding examples example reply answered expected answer trace stored visit tryAll entered boundAfter storedAfter stepInto choices upFrom demandOn sumOver
+examples-hold = refl

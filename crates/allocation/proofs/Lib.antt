@@ -1,0 +1,11 @@
+pub mod Demands
+pub mod Order
+pub mod Steps
+pub mod Sound
+pub mod Complete
+pub mod Optimal
+pub mod Remaining
+pub mod Progress
+pub mod Reorder
+pub mod Guarantee
+pub mod Examples

@@ -1,0 +1,59 @@
+-- Placements of tasks on cores, and which of them are feasible.
+use Prim.Native.Nat.{ℕ, _+_, _*_, _-_, _≤_, _<_}
+use mathlib.Core.Path.{_≡_}
+use mathlib.Core.Bool.{Bool, true, cond}
+use mathlib.Core.List.{List, [], _∷_}
+use lib.Dec.{eqb}
+use lib.ListN.{length, getD}
+use Rattle.numbers.specs.Sums.{sumOver}
+
+-- What is planned. Tasks are counted from 0, in the order of their demands.
+pub record Problem : Type 0 where
+  -- the hyperperiod (the paper's frame H), which no core's load may pass
+  pub capacity : ℕ
+  -- the number of cores, m
+  pub cores : ℕ
+  -- each task's demand (the paper's weight)
+  pub demands : List ℕ
+  -- whether a task may run on a core
+  pub permits : ℕ → ℕ → Bool
+
+-- A placement is the list of the tasks' choices: a core, 1 to m, or 0 for rejected (the paper's left out). A shorter list is the beginning of one.
+
+-- the demand of the tasks whose choice is c: the load of core c, and for c = 0 the rejected demand
+unfoldable pub demandOn : ℕ → List ℕ → List ℕ → ℕ
+demandOn c [] p = 0
+demandOn c (w ∷ ws) [] = 0
+demandOn c (w ∷ ws) (x ∷ p) = cond (eqb x c) w 0 + demandOn c ws p
+
+-- the sum of a list
+abbrev pub sum : List ℕ → ℕ
+sum ws = sumOver (λ w. w) ws
+
+module _ (P : Problem) where
+  -- the load of core c
+  abbrev pub load : ℕ → List ℕ → ℕ
+  load c p = demandOn c (P .demands) p
+
+  -- the rejected demand (the paper's left-out weight)
+  abbrev pub rejected : List ℕ → ℕ
+  rejected p = demandOn 0 (P .demands) p
+
+  -- the total demand
+  abbrev pub total : ℕ
+  total = sum (P .demands)
+
+  -- the excess: the total demand less m times H, or 0 if that is negative
+  abbrev pub excess : ℕ
+  excess = total - P .cores * P .capacity
+
+-- A feasible placement: each task has one choice, 0 or a core that it may run on, and no core's load is above the hyperperiod.
+pub record Feasible (P : Problem) (p : List ℕ) : Type 0 where
+  pub whole : length p ≡ length (P .demands)
+  pub core : (k : ℕ) → k < length p → getD p k 0 ≤ P .cores
+  pub permitted : (k : ℕ) → k < length p → 1 ≤ getD p k 0 → P .permits k (getD p k 0) ≡ true
+  pub fits : (c : ℕ) → 1 ≤ c → c ≤ P .cores → load P c p ≤ P .capacity
+
+-- A full placement: every task has a core.
+abbrev pub Full : List ℕ → Type 0
+Full p = (k : ℕ) → k < length p → 1 ≤ getD p k 0

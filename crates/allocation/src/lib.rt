@@ -1,0 +1,1 @@
+// The partitioned allocation problem: its definitions are in specs/, its theorems in proofs/.

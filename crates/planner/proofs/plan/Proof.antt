@@ -1,0 +1,43 @@
+-- The reader decides; an accepted table is planned.
+use Rattle.planner.proofs.PlanLaws.{plan-refused, ready, plan-accepted}
+use Rattle.planner.proofs.PromiseLaws.{decided, keeps-promise}
+use borrow.Author.Needs.{needs}
+use Rattle.planner.proofs.plan.Statement.{statement}
+use Rattle.planner.proofs.plan.Tie as tie
+
+read-table-requires : tie.Need-read-table-requires
+read-table-requires c κs = search needs
+
+enum-known-outcome : tie.Need-enum-known-outcome
+enum-known-outcome c = search needs
+
+refused-requires : tie.Need-refused-requires
+refused-requires c κs = search needs
+
+enum-told : tie.Need-enum-told
+enum-told c = search needs
+
+plan-tasks-requires : tie.Need-plan-tasks-requires
+plan-tasks-requires c κs = ready _ (c .before .before .read-table .ensures .0) (cc)
+
+returns : tie.Need-returns
+returns c =
+    let e = plan-refused _ (c .before .before .before .before .read-table .ensures .0) _ (c .refused .ensures) (cc) in
+    (e, (decided _ _ e, keeps-promise _ _ e))
+
+returns-2 : tie.Need-returns-2
+returns-2 c =
+    let e = plan-accepted _ (c .before .before .before .read-table .ensures .0) (cc) _ (c .plan-tasks .ensures) in
+    (e, (decided _ _ e, keeps-promise _ _ e))
+
+pub plan-spec : {M : Type 1} → statement M
+plan-spec =
+    tie.close
+    (tie.spec
+    read-table-requires
+    enum-known-outcome
+    refused-requires
+    enum-told
+    plan-tasks-requires
+    returns
+    returns-2)

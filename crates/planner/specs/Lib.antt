@@ -1,0 +1,4 @@
+pub mod Problem
+pub mod Plan
+pub mod Promise
+pub mod Steps

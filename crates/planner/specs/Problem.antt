@@ -1,0 +1,24 @@
+-- What a table asks of the planner. Tasks are counted from 0 in table order.
+use Prim.Native.Nat.{ℕ}
+use mathlib.Core.Bool.{true}
+use mathlib.Core.List.{List}
+use Rattle.numbers.specs.Rows.{tab}
+use Rattle.numbers.specs.Sorting.{sorted}
+use Rattle.taskset.specs.Demands.{hyperperiodOf, demandOf}
+use Rattle.taskset.specs.Reading.{taskSetOf}
+use Rattle.taskset.specs.declared.Fields.{Fields}
+use Rattle.planning.specs.Order.{precedes}
+use Rattle.allocation.specs.Placement.{Problem}
+
+-- the tasks' demands on cores that each hold one hyperperiod; a task may run on every core
+unfoldable pub problemOf : Fields → Problem
+problemOf f = record {
+  capacity = hyperperiodOf f;
+  cores = f .m;
+  demands = tab (f .n) (demandOf f);
+  permits = λ task core. true;
+}
+
+-- the tasks in planning order
+unfoldable pub orderOf : Fields → List ℕ
+orderOf f = sorted (precedes (taskSetOf f)) (f .n)

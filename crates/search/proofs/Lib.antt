@@ -1,0 +1,4 @@
+pub mod Five
+pub mod Zeros
+pub mod State
+pub mod Entry
