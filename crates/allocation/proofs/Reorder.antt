@@ -21,7 +21,7 @@ use Rattle.allocation.specs.TableOrder.{gather, planned, position, scatt
 -- ---- loads as sums over tasks
 
 -- what task t adds to the demand on c
-share : ℕ → List ℕ → List ℕ → ℕ → ℕ
+unfoldable pub share : ℕ → List ℕ → List ℕ → ℕ → ℕ
 share c ws q t = cond (eqb (getD q t 0) c) (getD ws t 0) 0
 
 demand-gathered : (c : ℕ) (order ws q : List ℕ) → demandOn c (gather order ws) (gather order q) ≡ sumOver (share c ws q) order
@@ -34,7 +34,7 @@ unfolding sumTo
 sumTo-front f zero = refl
 sumTo-front f (suc n) = omega (arith, sumTo-front f n)
 
-demand-listed : (c : ℕ) (ws q : List ℕ) → length q ≡ length ws → demandOn c ws q ≡ sumTo (share c ws q) (length ws)
+pub demand-listed : (c : ℕ) (ws q : List ℕ) → length q ≡ length ws → demandOn c ws q ≡ sumTo (share c ws q) (length ws)
 unfolding demandOn sumTo share
 demand-listed c [] q e = refl
 demand-listed c (w ∷ ws) [] e = absurd (omega arith)

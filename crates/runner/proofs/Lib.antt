@@ -1,0 +1,5 @@
+pub mod SlotLoops
+pub mod TickLaws
+pub mod FreshLaws
+pub mod JoinLaws
+pub mod StartLaws
