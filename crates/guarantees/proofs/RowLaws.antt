@@ -6,7 +6,7 @@ use Rattle.numbers.specs.Sums.{sumOver, sumTo}
 use Rattle.numbers.specs.Multiples.{euclid, gcd, lcm, lcms}
 use Rattle.numbers.specs.Sorting.{insert, sorted}
 use Rattle.refusal.specs.Tests.{_then_, refuseIf, refuseAt, inOrder}
-use Rattle.taskset.specs.Bytes.{wordAt}
+use Rattle.wire.specs.Bytes.{wordAt}
 use Rattle.taskset.specs.Fields.{fieldsOf}
 use Rattle.taskset.specs.Demands.{multipleTo, hyperperiodOf, demandOf}
 use Rattle.taskset.specs.Refusals.{badPeriod, badBudget, passes, outcomeOf}

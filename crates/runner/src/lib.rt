@@ -218,26 +218,13 @@ fn pass_all(run: usize, slots: [Slot; 16]) -> [Slot; 16]
     next
 }
 
-// The core that a placement gives the task at `k`; 0 past its end.
-fn core_at(placement: &[u8], k: usize) -> u8
-    ensures { λ r. ⌜ r ≡ entry (now (placement .entry)) k ⌝ }
-{
-    if k < placement.len() { placement[k] } else { 0 }
-}
-
-fn size(b: u8) -> usize
-    ensures { λ r. ⌜ (r ≡ b) × (r < 256) ⌝ }
-{
-    b as usize
-}
-
 // The first task that a placement puts above core `m`; 0 if there is none.
 fn first_above(placement: &[u8], m: usize) -> usize
     ensures { λ r. ⌜ r ≡ first (aboveAt (now (placement .entry)) m) (length (now (placement .entry))) ⌝ }
 {
     let mut k: usize = 0;
     while k < placement.len() {
-        let placed = size(placement[k]);
+        let placed = wire::size(placement[k]);
         if m < placed {
             return k + 1;
         }
@@ -261,7 +248,7 @@ fn load_on(n: usize, demands: [u32; 16], placement: &[u8], core: u8) -> u32
     let mut sum: u32 = 0;
     let mut k: usize = 0;
     while k < n {
-        sum += share(demands[k], core_at(placement, k), core);
+        sum += share(demands[k], wire::byte(placement, k), core);
         k += 1;
     }
     sum
@@ -308,7 +295,7 @@ fn fresh_slots(
     let mut slots = [empty; 16];
     let mut k: usize = 0;
     while k < n {
-        slots[k] = fresh_slot(periods[k], budgets[k], core_at(placement, k), core);
+        slots[k] = fresh_slot(periods[k], budgets[k], wire::byte(placement, k), core);
         k += 1;
     }
     slots
@@ -330,7 +317,7 @@ fn placement_test(f: Fields, placement: &[u8]) -> Outcome
 fn core_test(f: Fields, core: u8) -> Outcome
     ensures { λ r. ⌜ r ≡ coreTest f core ⌝ }
 {
-    let number = size(core);
+    let number = wire::size(core);
     refusal::refuse_if((number < 1) | (f.m < number), Cause::CoreNumber)
 }
 

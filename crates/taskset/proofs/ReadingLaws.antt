@@ -3,7 +3,6 @@ use Prim.Native.Nat.{ℕ, _≤_}
 use mathlib.Core.Path.{_≡_, refl, sym, _∙_, ap}
 use mathlib.Core.List.{List}
 use mathlib.Core.Logic.{_⊎_, inl, inr}
-use lib.ListN.{length, getD, List·getD-eq-default}
 use Rattle.refusal.specs.Tests.{_then_, inOrder}
 use Rattle.refusal.specs.Faults.{Decides}
 use Rattle.refusal.proofs.TestLaws.{accepted≢refused, then-first, then-refused}
@@ -19,9 +18,6 @@ use Rattle.taskset.specs.declared.Fields.{Fields}
 use Rattle.taskset.specs.declared.Reading.{Reading}
 use Rattle.taskset.proofs.DemandLaws.{taskSet-exact}
 use Rattle.taskset.proofs.LimitLaws.{shape-says, limits-say, table-decides}
-
-pub past-end : (s : List ℕ) (at : ℕ) → length s ≤ at → 0 ≡ getD s at 0
-past-end s at h = sym (List·getD-eq-default s 0 h)
 
 -- the answer's outcome is that of the tests
 answer-outcome : (o : Outcome) (f : Fields) → answerOf o f .outcome ≡ o

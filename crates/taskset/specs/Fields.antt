@@ -3,7 +3,7 @@ use Prim.Native.Nat.{ℕ, _+_, _*_}
 use mathlib.Core.List.{List}
 use lib.ListN.{getD}
 use Rattle.numbers.specs.Rows.{row, entry}
-use Rattle.taskset.specs.Bytes.{wordAt}
+use Rattle.wire.specs.Bytes.{wordAt}
 use Rattle.taskset.specs.declared.Fields.{Fields}
 
 -- byte 0: the number of tasks, n

@@ -7,7 +7,7 @@ ghost use Rattle.numbers.specs.Rows.{row};
 ghost use Rattle.refusal.specs.Tests.{inOrder};
 ghost use Rattle.refusal.specs.Faults.{Decides};
 ghost use Rattle.refusal.specs.declared.Outcome.the-variants.{Accepted};
-ghost use Rattle.taskset.specs.Bytes.{le32, wordAt};
+ghost use Rattle.wire.specs.Bytes.{wordAt};
 ghost use Rattle.taskset.specs.Fields.{fieldsOf};
 ghost use Rattle.taskset.specs.Demands.{hyperperiodOf, demandOf};
 ghost use Rattle.taskset.specs.Refusals.{shortTest, tasksTest, coresTest, lengthTest, badPeriod, badBudget, passes, periodsTest, budgetsTest, hyperperiodTest, shapeTests, limitTests};
@@ -43,37 +43,6 @@ pub struct Multiple {
     pub value: u32,
 }
 
-// The byte at `at`, or 0 past the end.
-fn byte(s: &[u8], at: usize) -> u8
-    ensures { λ r. ⌜ r ≡ getD (now (s .entry)) at 0 ⌝ }
-{
-    if at < s.len() { s[at] } else { 0 }
-}
-
-fn wide(b: u8) -> u32
-    ensures { λ r. ⌜ (r ≡ b) × (r < 256) ⌝ }
-{
-    b as u32
-}
-
-fn size(b: u8) -> usize
-    ensures { λ r. ⌜ (r ≡ b) × (r < 256) ⌝ }
-{
-    b as usize
-}
-
-// The number in the four bytes of `s` from `at`, lowest byte first.
-fn word(s: &[u8], at: usize) -> u32
-    requires { ⌜ at < 4096 ⌝ }
-    ensures { λ r. ⌜ r ≡ le32 (now (s .entry)) at ⌝ }
-{
-    let b0 = wide(byte(s, at));
-    let b1 = wide(byte(s, at + 1));
-    let b2 = wide(byte(s, at + 2));
-    let b3 = wide(byte(s, at + 3));
-    b0 + 256 * b1 + 65536 * b2 + 16777216 * b3
-}
-
 // The row with one entry changed.
 fn with_entry(entries: [u32; 16], k: usize, x: u32) -> [u32; 16]
     requires { ⌜ k < 16 ⌝ }
@@ -92,7 +61,7 @@ fn words(s: &[u8], at: usize, n: usize) -> [u32; 16]
     let mut entries = [0u32; 16];
     let mut k = 0;
     while k < n {
-        let next = with_entry(entries, k, word(s, at + 4 * k));
+        let next = with_entry(entries, k, wire::word(s, at + 4 * k));
         entries = next;
         k += 1;
     }
@@ -104,8 +73,8 @@ fn decode(s: &[u8]) -> Fields
     requires { ⌜ getD (now s) 0 0 ≤ 16 ⌝ }
     ensures { λ r. ⌜ r ≡ fieldsOf (now (s .entry)) ⌝ }
 {
-    let n = size(byte(s, 0));
-    let m = size(byte(s, 1));
+    let n = wire::size(wire::byte(s, 0));
+    let m = wire::size(wire::byte(s, 1));
     let periods = words(s, 2, n);
     let budgets = words(s, 2 + 4 * n, n);
     Fields {
@@ -127,21 +96,30 @@ fn short_test(s: &[u8]) -> Outcome
 fn tasks_test(s: &[u8]) -> Outcome
     ensures { λ r. ⌜ r ≡ tasksTest (now (s .entry)) ⌝ }
 {
-    refusal::refuse_if(numbers::outside(1, 16, wide(byte(s, 0))), Cause::TaskCount)
+    refusal::refuse_if(
+        numbers::outside(1, 16, wire::wide(wire::byte(s, 0))),
+        Cause::TaskCount,
+    )
 }
 
 // Number 3.
 fn cores_test(s: &[u8]) -> Outcome
     ensures { λ r. ⌜ r ≡ coresTest (now (s .entry)) ⌝ }
 {
-    refusal::refuse_if(numbers::outside(1, 4, wide(byte(s, 1))), Cause::CoreCount)
+    refusal::refuse_if(
+        numbers::outside(1, 4, wire::wide(wire::byte(s, 1))),
+        Cause::CoreCount,
+    )
 }
 
 // Number 4.
 fn length_test(s: &[u8]) -> Outcome
     ensures { λ r. ⌜ r ≡ lengthTest (now (s .entry)) ⌝ }
 {
-    refusal::refuse_if(s.len() != 2 + 8 * size(byte(s, 0)), Cause::Length)
+    refusal::refuse_if(
+        s.len() != 2 + 8 * wire::size(wire::byte(s, 0)),
+        Cause::Length,
+    )
 }
 
 // Numbers 1 to 4.

@@ -26,8 +26,8 @@ mul-fresh-slot-2 c = search needs
 array-read-fresh-slot-2 : tie.Need-array-read-fresh-slot-2 Inv-loop μ-loop
 array-read-fresh-slot-2 c = search needs
 
-core-at-requires : tie.Need-core-at-requires Inv-loop μ-loop
-core-at-requires c κs = search needs
+byte-requires : tie.Need-byte-requires Inv-loop μ-loop
+byte-requires c κs = search needs
 
 fresh-slot-requires : tie.Need-fresh-slot-requires Inv-loop μ-loop
 fresh-slot-requires c κs = search needs
@@ -61,7 +61,7 @@ fresh-slots-spec =
     array-read-fresh-slot
     mul-fresh-slot-2
     array-read-fresh-slot-2
-    core-at-requires
+    byte-requires
     fresh-slot-requires
     mul-slots
     array-set-from-slots

@@ -21,14 +21,14 @@ mul-share c = search needs
 array-read-share : tie.Need-array-read-share Inv-loop μ-loop
 array-read-share c = search needs
 
-core-at-requires : tie.Need-core-at-requires Inv-loop μ-loop
-core-at-requires c κs = search needs
+byte-requires : tie.Need-byte-requires Inv-loop μ-loop
+byte-requires c κs = search needs
 
 share-requires : tie.Need-share-requires Inv-loop μ-loop
 share-requires c κs = search needs
 
 add-sum : tie.Need-add-sum Inv-loop μ-loop
-add-sum c = omega (arith, add-fits (c .before .before .before .loop .inv) (c .before .before .loop-test .taken) (c .before .core-at .ensures) (c .share .ensures))
+add-sum c = omega (arith, add-fits (c .before .before .before .loop .inv) (c .before .before .loop-test .taken) (c .before .byte .ensures) (c .share .ensures))
 
 add-k : tie.Need-add-k Inv-loop μ-loop
 add-k c = search needs
@@ -51,7 +51,7 @@ load-on-spec =
     loop-holds
     mul-share
     array-read-share
-    core-at-requires
+    byte-requires
     share-requires
     add-sum
     add-k

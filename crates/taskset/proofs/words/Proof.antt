@@ -1,7 +1,7 @@
 -- A row of numbers, filled from the front.
 use Prim.Native.Nat.{_-_}
 use Rattle.numbers.proofs.RowLaws.{Filled, fill-start, fill-with, fill-done}
-use Rattle.taskset.specs.Bytes.{wordAt}
+use Rattle.wire.specs.Bytes.{wordAt}
 use borrow.Author.Needs.{needs}
 use Rattle.taskset.proofs.words.Statement.{statement}
 use Rattle.taskset.proofs.words.Tie as tie

@@ -1,8 +1,8 @@
 -- A byte past the end reads as 0.
-use Rattle.taskset.proofs.ReadingLaws.{past-end}
+use Rattle.wire.proofs.ByteLaws.{past-end}
 use borrow.Author.Needs.{needs}
-use Rattle.taskset.proofs.byte.Statement.{statement}
-use Rattle.taskset.proofs.byte.Tie as tie
+use Rattle.wire.proofs.byte.Statement.{statement}
+use Rattle.wire.proofs.byte.Tie as tie
 
 shared-slice-read-result : tie.Need-shared-slice-read-result
 shared-slice-read-result c = search needs

@@ -1,9 +1,9 @@
--- Numbers in bytes.
+-- Numbers in bytes, lowest byte first.
 use Prim.Native.Nat.{ℕ, _+_, _*_}
 use mathlib.Core.List.{List}
 use lib.ListN.{getD}
 
--- the number in the four bytes of s from `at`, lowest byte first
+-- the number in the four bytes of s from `at`
 abbrev pub le32 : List ℕ → ℕ → ℕ
 le32 s at = getD s at 0 + 256 * getD s (at + 1) 0 + 65536 * getD s (at + 2) 0 + 16777216 * getD s (at + 3) 0
 
