@@ -1,2 +1,4 @@
+pub mod CauseLaws
 pub mod TestLaws
 pub mod FaultLaws
+pub mod JoinLaws

@@ -29,7 +29,7 @@ use Rattle.taskset.specs.Refusals.{outcomeOf}
 use Rattle.taskset.specs.Reading.{taskSetOf, acceptedWith, readingOf}
 use Rattle.taskset.specs.Limits.{Within, Fault, Exact}
 use Rattle.taskset.proofs.DemandLaws.{taskSet-exact}
-use Rattle.taskset.proofs.LimitLaws.{table-decides}
+use Rattle.taskset.proofs.LimitLaws.{table-decides, fault-number}
 use Rattle.taskset.proofs.ReadingLaws.{reading-outcome, reading-accepted}
 use Rattle.edf.specs.declared.Slot.{Slot}
 use Rattle.edf.specs.Fresh.{freshSlots, load}
@@ -37,24 +37,10 @@ use Rattle.edf.proofs.GuaranteeLaws.{tick-guarantee}
 use Rattle.runner.specs.declared.Started.{Started}
 use Rattle.runner.specs.Parts.{aboveAt, SmallDemands}
 use Rattle.runner.specs.Starts.{placedTasks, loadOf, placementTest, coreTest, loadTest, placingTests, refusedStart, startWith, startOf, Placed, PlacingFault, ValidStart, StartFault, Served}
-use Rattle.runner.proofs.JoinLaws.{then-decides}
-
--- The numbers of the table's faults and of the placing's.
-table-low : (s : List ℕ) (c : Cause) → Fault s c → numberOf c ≤ 7
-table-low s TooShort h = omega arith
-table-low s TaskCount h = omega arith
-table-low s CoreCount h = omega arith
-table-low s Length h = omega arith
-table-low s (Period k) h = omega arith
-table-low s (Budget k) h = omega arith
-table-low s (Hyperperiod k) h = omega arith
-table-low s Buffer h = absurd h
-table-low s (Placement k) h = absurd h
-table-low s CoreNumber h = absurd h
-table-low s Overload h = absurd h
-table-low s (WrongSlot k) h = absurd h
+use Rattle.refusal.proofs.JoinLaws.{then-decides}
 
 module _ (t : TaskSet) (placement : List ℕ) (core : ℕ) where
+  -- the placing's numbers are 9 to 11
   placing-high : (c : Cause) → PlacingFault t placement core c → 9 ≤ numberOf c
   placing-high TooShort h = absurd h
   placing-high TaskCount h = absurd h
@@ -182,7 +168,7 @@ module _ (table placement : List ℕ) (core : ℕ) where
   start-decides : Decides (ValidStart table placement core) (StartFault table placement core) startOutcome
   start-decides =
       then-decides (table-decides table) (λ _. placing-decides tasks placement core)
-      (λ b c x y. omega (arith, table-low table b x, placing-high tasks placement core c y))
+      (λ b c x y. omega (arith, fault-number table b x, placing-high tasks placement core c y))
 
   -- the answer's outcome is that of the tests
   with-outcome : (o : Outcome) → startWith o (placedTasks (fieldsOf table) placement) core .outcome ≡ o

@@ -16,6 +16,7 @@ use Rattle.numbers.proofs.FirstLaws.{Holds, first-zero}
 use Rattle.refusal.specs.Causes.{numberOf}
 use Rattle.refusal.specs.Tests.{refuseIf, refuseAt, inOrder}
 use Rattle.refusal.specs.Faults.{Decides}
+use Rattle.refusal.proofs.CauseLaws.{number-range}
 use Rattle.refusal.proofs.TestLaws.{accepted≢refused, then-accepted, refuseIf-accepted, refuseIf-refused, refuseIf-true, refuseAt-accepted}
 use Rattle.refusal.proofs.FaultLaws.{testAt, inOrder-accepted, inOrder-append, place-found, place-sound, Fits, decides}
 use Rattle.refusal.specs.declared.Cause.{Cause}
@@ -66,20 +67,6 @@ limits-say f z e =
 -- The tests stand in the order of their numbers.
 position : Cause → ℕ
 position c = numberOf c - 1
-
-number-pos : (c : Cause) → 1 ≤ numberOf c
-number-pos TooShort = omega arith
-number-pos TaskCount = omega arith
-number-pos CoreCount = omega arith
-number-pos Length = omega arith
-number-pos (Period k) = omega arith
-number-pos (Budget k) = omega arith
-number-pos (Hyperperiod k) = omega arith
-number-pos Buffer = omega arith
-number-pos (Placement k) = omega arith
-number-pos CoreNumber = omega arith
-number-pos Overload = omega arith
-number-pos (Slot k) = omega arith
 
 module _ (s : List ℕ) where
   tests : List Outcome
@@ -161,7 +148,7 @@ module _ (s : List ℕ) where
   fits = record {
     finds = finds;
     sound = sound;
-    ordered = λ c d a b. (λ h. omega arith, λ h. omega (arith, number-pos c));
+    ordered = λ c d a b. (λ h. omega arith, λ h. omega (arith, number-range c .0));
   }
 
   enough : inOrder tests ≡ Accepted → Valid s
@@ -196,3 +183,18 @@ module _ (s : List ℕ) where
   pub table-decides : Decides (Valid s) (Fault s) (outcomeOf s)
   unfolding outcomeOf tests
   table-decides = decides fits enough clear
+
+-- the table's numbers are 1 to 7
+pub fault-number : (s : List ℕ) (c : Cause) → Fault s c → numberOf c ≤ 7
+fault-number s TooShort h = omega arith
+fault-number s TaskCount h = omega arith
+fault-number s CoreCount h = omega arith
+fault-number s Length h = omega arith
+fault-number s (Period k) h = omega arith
+fault-number s (Budget k) h = omega arith
+fault-number s (Hyperperiod k) h = omega arith
+fault-number s Buffer h = absurd h
+fault-number s (Placement k) h = absurd h
+fault-number s CoreNumber h = absurd h
+fault-number s Overload h = absurd h
+fault-number s (Slot k) h = absurd h

@@ -1,15 +1,16 @@
--- Two calls' tests, one after the other, decide together what each decides.
+-- Tests made one after the other decide together what each decides.
 use Prim.Native.Nat.{ℕ, zero, suc, _<_}
-use mathlib.Core.Path.{_≡_, _∙_}
-use mathlib.Core.Logic.{_⊎_, inl, inr}
+use mathlib.Core.Path.{_≡_, refl, sym, _∙_, ap}
+use mathlib.Core.Bool.{Bool, true, false}
+use mathlib.Core.Logic.{_⊎_, inl, inr, _↔_}
 use native.Mathlib.Omega.{arith}
 use Rattle.refusal.specs.Causes.{numberOf}
-use Rattle.refusal.specs.Tests.{_then_}
+use Rattle.refusal.specs.Tests.{_then_, refuseIf}
 use Rattle.refusal.specs.Faults.{FirstFault, Decides}
 use Rattle.refusal.specs.declared.Cause.{Cause}
 use Rattle.refusal.specs.declared.Outcome.{Outcome}
 use Rattle.refusal.specs.declared.Outcome.the-variants.{Accepted, Refused}
-use Rattle.refusal.proofs.TestLaws.{accepted≢refused, outcome-cases, then-accepted, then-cases, then-first, then-refused}
+use Rattle.refusal.proofs.TestLaws.{accepted≢refused, outcome-cases, then-accepted, then-cases, then-first, then-refused, refuseIf-accepted, refuseIf-refused, refuseIf-true, refuseIf-false}
 
 -- Where a call is accepted it has no fault.
 accepted-clear : {First : Type 0} {F : Cause → Type 0} {o : Outcome} → Decides First F o → o ≡ Accepted → (c : Cause) → F c → ⊥
@@ -66,3 +67,19 @@ module _ {First Second : Type 0} {F G : Cause → Type 0} {o p : Outcome} (d : D
     );
     refused = λ c. (refused-first c, first-refused c);
   }
+
+-- One test decides the one fault that its cause names.
+pub test-decides : {Fails Holds : Type 0} (t : Bool) (cause : Cause) → (t ≡ true) ↔ Holds → (t ≡ false) ↔ Fails
+    → Decides Fails (λ c. (c ≡ cause) × Holds) (refuseIf t cause)
+test-decides t cause holds fails = record {
+  accepted = (λ e. fails .0 (refuseIf-accepted t cause e), λ h. refuseIf-false t cause (fails .1 h));
+  refused = λ c. (
+    λ e.
+        let r = refuseIf-refused t cause c e in
+        record {
+          fault = (sym (r .1), holds .0 (r .0));
+          none = λ b l f. let z : b ≡ c = f .0 ∙ r .1 in absurd (omega (arith, ap numberOf z));
+        },
+    λ f. refuseIf-true t cause (holds .1 (f .fault .1)) ∙ ap Refused (sym (f .fault .0)),
+  );
+}
