@@ -13,6 +13,7 @@ use Rattle.taskset.specs.Limits.{Valid}
 use Rattle.planner.specs.Plan.{planOf}
 use Rattle.planner.specs.Promise.{Promise}
 use Rattle.planner.proofs.PromiseLaws.{decided, keeps-promise}
+use Rattle.firmware.proofs.EntryLaws.{refusal-writes-nothing}
 use Rattle.edf.specs.Guarantee.{TickGuarantee}
 use Rattle.runner.specs.Starts.{startOf, loadOf, placedTasks, Placed, ValidStart}
 use Rattle.runner.proofs.StartLaws as start
@@ -22,6 +23,7 @@ pub demand-one : DemandOne
 demand-one = record {
   within = λ table limit v. decided table limit refl .accepted .1 v;
   outside = λ table limit cause. decided table limit refl .refused cause;
+  unchanged = refusal-writes-nothing;
 }
 
 promise : (table : List ℕ) (limit : ℕ) → Valid table → Promise (fieldsOf table) limit (planOf table limit)

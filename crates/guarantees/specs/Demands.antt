@@ -18,6 +18,7 @@ use Rattle.planner.specs.Problem.{problemOf, orderOf}
 use Rattle.planner.specs.Plan.{planOf, outcomeBy}
 use Rattle.planner.specs.Promise.{walkLength, choicesOf}
 use Rattle.planner.specs.declared.Verdict.the-variants.{All, Spent}
+use Rattle.firmware.specs.Entry.{codeFor, bufferAfter}
 use Rattle.edf.specs.Tick.{Answer}
 use Rattle.edf.specs.Fresh.{Tasks, period, coreOf}
 use Rattle.edf.specs.Book.{book, names}
@@ -30,6 +31,8 @@ pub record DemandOne : Type 0 where
   pub within : (table : List ℕ) (limit : ℕ) → Valid table → outcomeBy (planOf table limit .verdict) ≡ Accepted
   -- A call outside its limits is refused with the number and place that the paper gives: those of its first fault, and never otherwise.
   pub outside : (table : List ℕ) (limit : ℕ) (cause : Cause) → (outcomeBy (planOf table limit .verdict) ≡ Refused cause) ↔ FirstFault (Fault table) cause
+  -- And lent memory then holds what it held before: a table is lent to be read, and the firmware's plan buffer is unchanged.
+  pub unchanged : (table buffer : List ℕ) (limit : ℕ) → 100 ≤ codeFor table limit (length buffer) → bufferAfter table limit buffer ≡ buffer
 
 -- Demand 2, of a valid table and any step limit.
 pub record DemandTwo : Type 0 where
