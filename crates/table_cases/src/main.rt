@@ -1,24 +1,15 @@
 // Prints what the reader and the planning order say of each table on standard input.
 // Input: a 2-byte count, low byte first; then for each case 1 byte length L and L table bytes.
 // A line: number, place, n, m and hyperperiod, then n demands and n task numbers in planning order.
-ghost use Prim.Native.Nat.{_<_};
 use refusal::Cause;
 use refusal::Outcome;
 use taskset::TaskSet;
 
-const IN: i32 = 0;
-
-const OUT: i32 = 1;
-
-fn field(x: u64) {
-    io::write_all(OUT, b" ");
-    io::print_decimal(OUT, x);
-}
-
 fn print_refusal(cause: Cause) {
-    io::print_decimal(OUT, refusal::number(cause) as u64);
-    field(refusal::place(cause) as u64);
-    io::write_all(OUT, b" 0 0 0\n");
+    console::print(refusal::number(cause) as u64);
+    console::field(refusal::place(cause) as u64);
+    console::text(b" 0 0 0");
+    console::end_line();
 }
 
 // The first `n` of sixteen entries.
@@ -26,7 +17,7 @@ fn print_demands(demands: [u32; 16], n: usize) {
     let mut k = 0usize;
     while k < 16 {
         if k < n {
-            field(demands[k] as u64);
+            console::field(demands[k] as u64);
         }
         k += 1;
     }
@@ -39,7 +30,7 @@ fn print_order(order: [usize; 16], n: usize) {
         if k < n {
             let task = order[k];
             if task < 16 {
-                field((task + 1) as u64);
+                console::field((task + 1) as u64);
             }
         }
         k += 1;
@@ -49,21 +40,17 @@ fn print_order(order: [usize; 16], n: usize) {
 fn print_tasks(t: TaskSet) {
     let n = t.fields.n;
     let demands = t.demands;
-    io::write_all(OUT, b"0 0");
-    field(n as u64);
-    field(t.fields.m as u64);
-    field(t.hyperperiod as u64);
+    console::text(b"0 0");
+    console::field(n as u64);
+    console::field(t.fields.m as u64);
+    console::field(t.hyperperiod as u64);
     print_demands(demands, n);
     print_order(planning::planning_order(t), n);
-    io::write_all(OUT, b"\n");
+    console::end_line();
 }
 
-// The line of the table in the first bytes of a buffer.
-fn print_case(buffer: &[u8], length: usize) {
-    if buffer.len() < length {
-        return;
-    }
-    let reading = taskset::read_table(&buffer[..length]);
+fn print_case(table: &[u8]) {
+    let reading = taskset::read_table(table);
     let outcome = reading.outcome;
     match outcome {
         Outcome::Refused(cause) => print_refusal(cause),
@@ -71,48 +58,32 @@ fn print_case(buffer: &[u8], length: usize) {
     }
 }
 
-fn size(b: u8) -> usize
-    ensures { λ r. ⌜ r < 256 ⌝ }
-{
-    b as usize
-}
-
-// The next `n` bytes of the input, read into the front of `buffer`; false where the input ends before.
-fn filled(buffer: &mut [u8], n: usize) -> bool {
-    if buffer.len() < n {
-        return false;
-    }
-    n <= io::read_full(IN, &mut buffer[..n])
-}
-
 // Reads a table of this length and prints its line; false where the input ends.
 fn run_table(length: usize) -> bool {
     let mut table = [0u8; 256];
-    if filled(&mut table, length) {
-        print_case(&table, length);
-        return true;
+    let got = console::read_next(&mut table, length);
+    if got < length {
+        return false;
     }
-    false
+    print_case(&table[..got]);
+    true
 }
 
 // Reads a case and prints its line; false where the input ends.
 fn run_case() -> bool {
     let mut length = [0u8; 1];
-    if filled(&mut length, 1) {
-        return run_table(size(length[0]));
+    if console::read_next(&mut length, 1) < 1 {
+        return false;
     }
-    false
+    run_table(wire::size(length[0]))
 }
 
 fn main() {
-    let mut count = [0u8; 2];
-    if filled(&mut count, 2) {
-        let mut left = size(count[0]) + 256 * size(count[1]);
-        while 0 < left {
-            if !run_case() {
-                return;
-            }
-            left -= 1;
+    let mut left = console::read_count();
+    while 0 < left {
+        if !run_case() {
+            return;
         }
+        left -= 1;
     }
 }

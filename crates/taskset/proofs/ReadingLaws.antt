@@ -12,7 +12,7 @@ use Rattle.refusal.specs.declared.Outcome.{Outcome}
 use Rattle.refusal.specs.declared.Outcome.the-variants.{Accepted, Refused}
 use Rattle.taskset.specs.Fields.{taskCount, fieldsOf}
 use Rattle.taskset.specs.Refusals.{shapeTests, limitTests, outcomeOf}
-use Rattle.taskset.specs.Reading.{refusedFor, acceptedWith, answerOf, readingOf}
+use Rattle.taskset.specs.Reading.{taskSetOf, refusedFor, acceptedWith, answerOf, readingOf}
 use Rattle.taskset.specs.Limits.{Sized, Within, Valid, Fault, Exact}
 use Rattle.taskset.specs.declared.Fields.{Fields}
 use Rattle.taskset.specs.declared.Reading.{Reading}
@@ -85,3 +85,7 @@ decided s e = rw e (reading-decides s)
 
 pub exact : (s : List ℕ) {r : Reading} → r ≡ readingOf s → r .outcome ≡ Accepted → Exact (r .tasks)
 exact s e = rw e (reading-exact s)
+
+pub reading-few : (s : List ℕ) {r : Reading} → r ≡ readingOf s → r .outcome ≡ Accepted → r .tasks .fields .n ≤ 16
+unfolding acceptedWith taskSetOf
+reading-few s e = rw e (λ a. rw (reading-accepted s a) (reading-decides s .accepted .0 a .fields .sizes .tasks .1))

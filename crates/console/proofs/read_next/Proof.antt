@@ -1,9 +1,10 @@
--- The front of the buffer has the length that was asked for.
+-- What is read into the front of the buffer is counted in the buffer.
 use mathlib.Core.Path.{sym}
 use lib.Seq.{length-take-le}
+use Rattle.console.proofs.CountLaws.{within, counted}
 use borrow.Author.Needs.{needs}
-use Rattle.table_cases.proofs.filled.Statement.{statement}
-use Rattle.table_cases.proofs.filled.Tie as tie
+use Rattle.console.proofs.read_next.Statement.{statement}
+use Rattle.console.proofs.read_next.Tie as tie
 
 returns : tie.Need-returns
 returns c = search needs
@@ -21,10 +22,10 @@ same-length : tie.Need-same-length
 same-length c = search needs
 
 returns-2 : tie.Need-returns-2
-returns-2 c = search needs
+returns-2 c = search (needs, within, counted)
 
-pub filled-spec : {M : Type 1} → statement M
-filled-spec =
+pub read-next-spec : {M : Type 1} → statement M
+read-next-spec =
     tie.close
     (tie.spec
     returns
