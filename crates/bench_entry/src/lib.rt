@@ -1,6 +1,9 @@
 // What the benchmarks call from C.
 ghost use mathlib.Core.Path.{_≡_};
+ghost use Prim.Native.Nat.{_<_};
 ghost use Rattle.planner.specs.Plan.{planOf};
+ghost use Rattle.bench_entry.specs.Ticks.{plus as plusOf, sumOfRuns, benchSum};
+use runner::Core;
 
 // Plans a table and returns the number of steps.
 #[no_mangle]
@@ -8,4 +11,45 @@ pub extern "C" fn bench_search(table: &[u8], limit: u32) -> u32
     ensures { λ r. ⌜ r ≡ planOf (now (table .entry)) limit .steps ⌝ }
 {
     planner::plan(table, limit).steps
+}
+
+// A sum with one task run more, in 32 bits.
+fn plus(sum: u64, run: usize) -> u64
+    requires { ⌜ sum < 4294967296 ⌝ }
+    ensures { λ r. ⌜ r ≡ plusOf sum run ⌝ }
+{
+    (sum + (run % 65536) as u64) % 4294967296
+}
+
+// The sum of the tasks run by some ticks of a record, each with full requests.
+fn sum_of_runs(core: Core, ticks: u32) -> u64
+    ensures { λ r. ⌜ r ≡ sumOfRuns 0 (core .slots) ticks ⌝ }
+{
+    let requests = [4294967295u32; 16];
+    let mut now = core;
+    let mut sum: u64 = 0;
+    let mut left = ticks;
+    while 0 < left {
+        let ticked = now.tick(requests);
+        sum = plus(sum, ticked.run);
+        let next = ticked.core;
+        now = next;
+        left -= 1;
+    }
+    sum
+}
+
+// Runs a table's tasks, all on core 1, with full requests, and returns the sum of the tasks run.
+#[no_mangle]
+pub extern "C" fn bench_tick(table: &[u8], ticks: u32) -> u64
+    ensures { λ r. ⌜ r ≡ benchSum (now (table .entry)) ticks ⌝ }
+{
+    let placement = [1u8; 16];
+    let n = wire::size(wire::byte(table, 0));
+    if 16 < n {
+        return 0;
+    }
+    let started = Core::fresh(table, &placement[..n], 1);
+    let core = started.core;
+    sum_of_runs(core, ticks)
 }
