@@ -39,7 +39,7 @@ module _ {start : List Slot} {ticks : ℕ} {requests : List ℕ} {slots : List S
     is =
         ap (λ x. sumOfRuns x (t .core .slots) (left - 1)) (q ∙ ap (λ b. plus sum (b .run)) a)
         ∙ ap (λ b. sumOfRuns (plus sum (tick slots full .run)) (b .slots) (left - 1)) a
-        ∙ sum-step (left - 1) (omega arith)
+        ∙ sum-step (left - 1) (omega arith);
   }
 
   pub sum-done : left ≤ 0 → sum ≡ sumOfRuns 0 start ticks

@@ -1,0 +1,146 @@
+/* Steps per second of the planner's search, beside the same walk in plain C in the same run.
+   The ratio is Rattle's speed by C's: 1.0 is as fast as C. `bench/run` builds and runs it.      */
+
+#define _POSIX_C_SOURCE 199309L
+
+#include <stddef.h>
+#include <stdint.h>
+#include <stdio.h>
+#include <time.h>
+
+/* The search under test: plans a table and returns the steps made. */
+uint32_t bench_search(const uint8_t *table, size_t table_len, uint32_t limit);
+
+enum { TASKS = 16, CORES = 3, ROUNDS = 5 };
+
+/* The walk in plain C. Demands and cores are in planning order. */
+
+struct plan {
+    uint8_t core[TASKS];
+    uint32_t rejected, steps;
+    int spent;
+};
+
+static __attribute__((noinline)) struct plan
+walk(const uint32_t *demand, unsigned n, unsigned m, uint32_t hyperperiod, uint32_t limit)
+{
+    uint32_t total = 0;
+    for (unsigned k = 0; k < n; k++)
+        total += demand[k];
+    const uint32_t excess = total > m * hyperperiod ? total - m * hyperperiod : 0;
+    uint32_t mark = total + 1;
+
+    struct plan best = {.rejected = total};
+    uint8_t path[TASKS];
+    uint32_t load[5] = {0}; /* load[0] is what is rejected so far */
+    unsigned depth = 0, turn = 1; /* turns 1 to m are the cores, turn m + 1 rejects */
+
+    for (;;) {
+        /* The next turn at this depth that may be entered. */
+        const uint32_t own = demand[depth];
+        unsigned choice;
+        while (turn <= m && (load[turn] + own > hyperperiod || load[0] >= mark || excess >= mark))
+            turn++;
+        if (turn <= m) {
+            choice = turn;
+        } else if (turn == m + 1 && load[0] + own < mark && excess < mark) {
+            choice = 0;
+        } else if (depth > 0) {
+            depth--;
+            load[path[depth]] -= demand[depth];
+            turn = path[depth] == 0 ? m + 2 : path[depth] + 1u;
+            continue;
+        } else {
+            return best;
+        }
+
+        if (best.steps == limit) {
+            best.spent = 1;
+            return best;
+        }
+        best.steps++;
+        path[depth] = (uint8_t)choice;
+        if (depth + 1 < n) {
+            load[choice] += own;
+            depth++;
+            turn = 1;
+        } else {
+            mark = best.rejected = load[0] + (choice == 0 ? own : 0);
+            for (unsigned k = 0; k < n; k++)
+                best.core[k] = path[k];
+            turn++;
+        }
+    }
+}
+
+/* The harness. In every sample all periods are equal and times fall, so that the hyperperiod is
+   the period, demands are times, and planning order is table order. */
+
+static const struct sample {
+    const char *name;
+    uint32_t limit, period, times[TASKS];
+} samples[] = {
+    {"load above three cores", UINT32_MAX, 10000,
+     {2989, 2912, 2694, 2693, 2565, 2556, 2519, 2347,
+      2210, 2194, 2040, 2018, 2003, 1997, 1886, 1879}},
+    {"the same, limit reached", 10000000, 10000,
+     {2989, 2912, 2694, 2693, 2565, 2556, 2519, 2347,
+      2210, 2194, 2040, 2018, 2003, 1997, 1886, 1879}},
+    {"many equal tasks", UINT32_MAX, 100,
+     {25, 25, 25, 23, 23, 23, 23, 23, 23, 22, 22, 21, 21, 20, 19, 18}},
+    {"load within three cores", UINT32_MAX, 1000,
+     {197, 197, 190, 186, 186, 184, 184, 182, 180, 176, 173, 173, 173, 172, 172, 171}},
+};
+
+static double now(void)
+{
+    struct timespec t;
+    clock_gettime(CLOCK_MONOTONIC, &t);
+    return (double)t.tv_sec + 1e-9 * (double)t.tv_nsec;
+}
+
+static void put_word(uint8_t *at, uint32_t word)
+{
+    for (int k = 0; k < 4; k++)
+        at[k] = (uint8_t)(word >> (8 * k));
+}
+
+int main(void)
+{
+    double sum_plain = 0, sum_tested = 0, sum_steps = 0;
+
+    printf("%-26s %10s %14s %14s %8s\n", "table", "steps", "C steps/s", "Rattle steps/s", "ratio");
+    for (size_t s = 0; s < sizeof samples / sizeof samples[0]; s++) {
+        const struct sample *sample = &samples[s];
+        uint8_t table[2 + 8 * TASKS] = {TASKS, CORES};
+        for (int k = 0; k < TASKS; k++) {
+            put_word(table + 2 + 4 * k, sample->period);
+            put_word(table + 2 + 4 * (TASKS + k), sample->times[k]);
+        }
+
+        /* The best of a few rounds, taken in turn. */
+        double plain = 1e9, tested = 1e9;
+        uint32_t steps = 0;
+        for (int round = 0; round < ROUNDS; round++) {
+            const double start = now();
+            steps = walk(sample->times, TASKS, CORES, sample->period, sample->limit).steps;
+            const double middle = now();
+            const uint32_t theirs = bench_search(table, sizeof table, sample->limit);
+            const double end = now();
+            if (theirs != steps) {
+                printf("steps differ: %u and %u\n", steps, theirs);
+                return 1;
+            }
+            plain = middle - start < plain ? middle - start : plain;
+            tested = end - middle < tested ? end - middle : tested;
+        }
+        printf("%-26s %10u %14.0f %14.0f %8.2f\n", sample->name, steps, steps / plain,
+               steps / tested, plain / tested);
+        sum_plain += plain;
+        sum_tested += tested;
+        sum_steps += steps;
+    }
+    printf("%-26s %10.0f %14.0f %14.0f %8.2f\n", "together", sum_steps, sum_steps / sum_plain,
+           sum_steps / sum_tested, sum_plain / sum_tested);
+    return 0;
+}

@@ -1,0 +1,50 @@
+/* The core planner of the mill controller, as C firmware calls it. */
+
+#ifndef MILLPLAN_H
+#define MILLPLAN_H
+
+#include <stddef.h>
+#include <stdint.h>
+
+#ifdef __cplusplus
+extern "C" {
+#endif
+
+/* What millplan_plan returns. */
+enum {
+    MILLPLAN_ALL = 0,       /* every task has a core */
+    MILLPLAN_SHORT = 1,     /* some tasks are left out; no plan places more load */
+    MILLPLAN_SPENT = 2,     /* the step limit ran out: the best plan found so far, if any */
+
+    /* Refused: 100 plus the number of the first fault, in this order. */
+    MILLPLAN_NO_HEADER = 101,       /* fewer than 2 table bytes */
+    MILLPLAN_TASK_COUNT = 102,      /* number of tasks not 1 to 16 */
+    MILLPLAN_CORE_COUNT = 103,      /* number of cores not 1 to 4 */
+    MILLPLAN_TABLE_LENGTH = 104,    /* table length not 2 + 8 * tasks */
+    MILLPLAN_PERIOD = 105,          /* a period not 1 to 10,000 */
+    MILLPLAN_TIME = 106,            /* a time of 0, or above its period */
+    MILLPLAN_FRAME = 107,           /* least common multiple of the periods above 1,000,000 */
+    MILLPLAN_PLAN_LENGTH = 108      /* plan buffer shorter than the number of tasks */
+};
+
+/* Plans a table of n tasks on m cores.
+ *
+ * table      byte 0: n; byte 1: m; then n periods and n times in ticks of 100 microseconds,
+ *            four bytes each, lowest byte first. Only read; may be NULL if it has no bytes.
+ * table_len  number of table bytes.
+ * limit      most steps the search may take; 1,000,000 is usual. A tighter limit is safe: the
+ *            answer then says that it ran out.
+ * plan       receives n bytes: for each task, in table order, its core from 1, or 0 if it is
+ *            left out. Must not overlap the table; may be NULL if it has no bytes.
+ * plan_len   number of bytes at plan, at least n. Bytes after the first n keep their values.
+ *
+ * On MILLPLAN_ALL, _SHORT and _SPENT the n bytes are written, and no core is overloaded. A
+ * MILLPLAN_SPENT with no plan found leaves out all tasks. On a refusal nothing is written. */
+uint32_t millplan_plan(const uint8_t *table, size_t table_len, uint32_t limit,
+                       uint8_t *plan, size_t plan_len);
+
+#ifdef __cplusplus
+}
+#endif
+
+#endif
