@@ -10,7 +10,7 @@
 
 /* The runner under test: makes a fresh core 1 with all tasks of the table on it, gives it full
    requests (the largest number, each) for so many ticks, and returns the sum of the tasks run. */
-uint32_t bench_tick(const uint8_t *table, size_t table_len, uint32_t ticks);
+uint64_t bench_tick(const uint8_t *table, size_t table_len, uint32_t ticks);
 
 enum { TASKS = 16, ROUNDS = 5 };
 
@@ -131,10 +131,10 @@ int main(void)
             const double start = now();
             const uint32_t ours = run_ticks(samples[s].periods, samples[s].budgets, TICKS);
             const double middle = now();
-            const uint32_t theirs = bench_tick(table, sizeof table, TICKS);
+            const uint64_t theirs = bench_tick(table, sizeof table, TICKS);
             const double end = now();
             if (theirs != ours) {
-                printf("sums of tasks run differ: %u and %u\n", ours, theirs);
+                printf("sums of tasks run differ: %u and %llu\n", ours, (unsigned long long)theirs);
                 return 1;
             }
             plain = middle - start < plain ? middle - start : plain;
