@@ -1,16 +1,14 @@
 -- The steps of the loop that sums the tasks run.
-use Prim.Native.Nat.{ℕ, zero, suc, _+_, _-_, _%_, _≤_, _<_}
+use Prim.Native.Nat.{ℕ, suc, _+_, _-_, _%_, _≤_, _<_}
 use mathlib.Core.Path.{_≡_, refl, sym, _∙_, ap}
 use mathlib.Core.List.{List}
-use mathlib.Core.Bool.{cond}
-use lib.Dec.{ltb}
 use lib.ListN.{take, replicate}
 use native.Mathlib.Omega.{arith}
 use native.Mathlib.Nat.{mod-lt}
 use borrow.Author.Tests.{lt-ltb, le-ltb}
 use Rattle.taskset.specs.Fields.{taskCount}
 use Rattle.edf.specs.declared.Slot.{Slot}
-use Rattle.edf.specs.Tick.{Answer, tick}
+use Rattle.edf.specs.Tick.{tick}
 use Rattle.runner.specs.Answers.{answerOf}
 use Rattle.runner.specs.Starts.{startOf}
 use Rattle.runner.specs.declared.Ticked.{Ticked}

@@ -1,5 +1,7 @@
 -- The sixteen slots of a core record, and the slots that cannot be.
-use Prim.Native.Nat.{ℕ, suc}
+use Prim.Native.Nat.{ℕ, suc, _≤_, _<_}
+use mathlib.Core.Path.{_≡_}
+use mathlib.Core.Logic.{_⊎_}
 use mathlib.Core.Bool.{Bool, not, _&&_, _||_}
 use mathlib.Core.List.{List, [], _∷_}
 use lib.Dec.{ltb, leb, eqb}
@@ -44,3 +46,14 @@ cannotBe s =
 -- the number of the first slot that cannot be; 0 if there is none
 abbrev pub firstWrong : List Slot → ℕ
 firstWrong slots = firstSlot cannotBe slots
+
+-- The same as a statement: what an occupied slot has to be,
+pub record InUse (s : Slot) : Type 0 where
+  pub period-in : (1 ≤ s .period) × (s .period ≤ 10000)
+  pub budget-in : (1 ≤ s .budget) × (s .budget ≤ s .period)
+  pub until-in : s .until < s .period
+  pub remaining-in : s .remaining ≤ s .budget
+
+-- and any slot: all zeros, or in use.
+abbrev pub CanBe : Slot → Type 0
+CanBe s = (s ≡ emptySlot) ⊎ InUse s

@@ -1,9 +1,8 @@
 -- The entry's code and buffer keep the demands.
 use Prim.Native.Nat.{ℕ, _+_, _≤_, _<_}
 use mathlib.Core.Path.{_≡_, refl, sym, _∙_, ap, ap₂}
-use mathlib.Core.Bool.{Bool, true, false}
 use mathlib.Core.List.{List, _++_}
-use mathlib.Core.Logic.{_⊎_, inl, inr, _↔_}
+use mathlib.Core.Logic.{_⊎_, inl, inr}
 use lib.Dec.{ltb}
 use lib.ListN.{length, take, drop}
 use lib.Seq.{take-at, length-take-le}
@@ -11,7 +10,7 @@ use native.Mathlib.Omega.{arith}
 use borrow.Author.Tests.{ltb-true, ltb-false, lt-ltb, le-ltb}
 use Rattle.refusal.specs.Causes.{numberOf}
 use Rattle.refusal.specs.Tests.{_then_, refuseIf}
-use Rattle.refusal.specs.Faults.{FirstFault, Decides}
+use Rattle.refusal.specs.Faults.{Decides}
 use Rattle.refusal.specs.declared.Cause.{Cause}
 use Rattle.refusal.specs.declared.Cause.the-variants.{Buffer}
 use Rattle.refusal.specs.declared.Outcome.{Outcome}
@@ -20,7 +19,6 @@ use Rattle.refusal.proofs.CauseLaws.{number-range}
 use Rattle.refusal.proofs.TestLaws.{accepted≢refused, outcome-cases, same-cause}
 use Rattle.refusal.proofs.JoinLaws.{then-decides, test-decides}
 use Rattle.taskset.specs.Fields.{taskCount, fieldsOf}
-use Rattle.taskset.specs.Refusals.{outcomeOf}
 use Rattle.taskset.specs.Reading.{readingOf}
 use Rattle.taskset.specs.Limits.{Valid, Fault}
 use Rattle.taskset.specs.declared.Reading.{Reading}
@@ -28,7 +26,7 @@ use Rattle.taskset.proofs.LimitLaws.{table-decides, fault-number}
 use Rattle.taskset.proofs.ReadingLaws.{reading-outcome}
 use Rattle.planner.specs.Plan.{planOf, outcomeBy}
 use Rattle.planner.proofs.PromiseLaws.{decided}
-use Rattle.planner.specs.Promise.{Promise, choicesOf}
+use Rattle.planner.specs.Promise.{Promise}
 use Rattle.planner.specs.declared.Allocation.{Allocation}
 use Rattle.planner.specs.declared.Verdict.{Verdict}
 use Rattle.planner.specs.declared.Verdict.the-variants.{All, Short, Spent, Refused}

@@ -5,7 +5,6 @@ use mathlib.Core.Bool.{cond}
 use mathlib.Core.List.{List}
 use lib.Dec.{eqb}
 use lib.ListN.{length, getD}
-use native.Mathlib.Omega.{arith}
 use Rattle.numbers.specs.Rows.{row, tab, entry}
 use Rattle.numbers.specs.Sums.{sumTo}
 use Rattle.numbers.proofs.RowLaws.{getD-row, getD-tab, length-tab}
@@ -14,7 +13,7 @@ use Rattle.refusal.specs.declared.Outcome.the-variants.{Accepted}
 use Rattle.taskset.specs.Fields.{fieldsOf, taskCount, coreCount}
 use Rattle.taskset.specs.Demands.{hyperperiodOf, demandOf}
 use Rattle.taskset.specs.Reading.{taskSetOf}
-use Rattle.taskset.specs.Limits.{Sized, Within, Valid}
+use Rattle.taskset.specs.Limits.{Valid}
 use Rattle.taskset.specs.declared.Fields.{Fields}
 use Rattle.allocation.specs.Placement as allocation
 use Rattle.allocation.proofs.Reorder.{share, demand-listed}

@@ -1,12 +1,10 @@
 -- The three demands hold.
-use Prim.Native.Nat.{ℕ, _≤_, _<_}
+use Prim.Native.Nat.{ℕ, _≤_}
 use mathlib.Core.Path.{_≡_, refl}
 use mathlib.Core.List.{List}
 use mathlib.Core.Logic.{_↔_}
-use lib.ListN.{length}
-use Rattle.numbers.specs.Rows.{entry}
 use Rattle.refusal.specs.declared.Outcome.the-variants.{Accepted}
-use Rattle.taskset.specs.Fields.{fieldsOf, taskCount, coreCount}
+use Rattle.taskset.specs.Fields.{fieldsOf, coreCount}
 use Rattle.taskset.specs.Demands.{hyperperiodOf}
 use Rattle.taskset.specs.Reading.{taskSetOf}
 use Rattle.taskset.specs.Limits.{Valid}
@@ -15,7 +13,7 @@ use Rattle.planner.specs.Promise.{Promise}
 use Rattle.planner.proofs.PromiseLaws.{decided, keeps-promise}
 use Rattle.firmware.proofs.EntryLaws.{refusal-writes-nothing}
 use Rattle.edf.specs.Guarantee.{TickGuarantee}
-use Rattle.runner.specs.Starts.{startOf, loadOf, placedTasks, Placed, ValidStart}
+use Rattle.runner.specs.Starts.{startOf, loadOf, placedTasks, Placed}
 use Rattle.runner.proofs.StartLaws as start
 use Rattle.guarantees.specs.Demands.{DemandOne, DemandTwo, DemandThree, ValidPlacement}
 

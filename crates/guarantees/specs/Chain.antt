@@ -2,7 +2,6 @@
 use Prim.Native.Nat.{ℕ, _+_, _*_, _≤_, _<_}
 use mathlib.Core.Path.{_≡_}
 use mathlib.Core.List.{List}
-use mathlib.Core.Logic.{_↔_}
 use lib.ListN.{length}
 use Rattle.numbers.specs.Rows.{entry}
 use Rattle.refusal.specs.declared.Outcome.the-variants.{Accepted}

@@ -3,7 +3,7 @@ use Prim.Native.Nat.{ℕ, _+_, _*_, _≤_, _<_}
 use mathlib.Core.Path.{_≡_}
 use mathlib.Core.List.{List, map}
 use mathlib.Core.Logic.{_↔_, _≢_}
-use lib.ListN.{length, take, replicate}
+use lib.ListN.{length, replicate}
 use Rattle.numbers.specs.Rows.{entry}
 use Rattle.refusal.specs.Faults.{FirstFault}
 use Rattle.refusal.specs.declared.Cause.{Cause}
@@ -19,8 +19,7 @@ use Rattle.planner.specs.Plan.{planOf, outcomeBy}
 use Rattle.planner.specs.Promise.{walkLength, choicesOf}
 use Rattle.planner.specs.declared.Verdict.the-variants.{All, Spent}
 use Rattle.firmware.specs.Entry.{codeFor, bufferAfter}
-use Rattle.edf.specs.Tick.{Answer}
-use Rattle.edf.specs.Fresh.{Tasks, period, coreOf}
+use Rattle.edf.specs.Fresh.{period}
 use Rattle.edf.specs.Book.{book, names}
 use Rattle.edf.specs.Guarantee.{answers, runs, receivedIn, owedIn}
 use Rattle.runner.specs.Starts.{startOf, loadOf, placedTasks}

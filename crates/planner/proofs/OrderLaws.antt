@@ -2,29 +2,25 @@
 use Prim.Native.Nat.{ℕ, zero, suc, _+_, _≤_, _<_}
 use mathlib.Core.Path.{_≡_, refl, sym, _∙_, ap}
 use mathlib.Core.List.{List}
-use mathlib.Core.Bool.{Bool, true, false, cond}
+use mathlib.Core.Bool.{cond}
 use mathlib.Core.Logic.{_≢_}
 use lib.Dec.{ltb}
-use lib.ListN.{length, getD, set, take, replicate, length-set, length-replicate, length-map}
+use lib.ListN.{length, getD, set, take, replicate, length-set, length-map}
 use lib.Seq.{ext-getD, getD-set-same, getD-set-other, getD-take, length-take-le}
 use native.Mathlib.Omega.{arith}
 use native.Mathlib.Numerals.{add-one}
 use native.Mathlib.Decide.{ℕ-discrete, decLt}
 use borrow.Author.Tests.{lt-ltb, le-ltb}
-use Rattle.numbers.specs.Rows.{row, entry, upTo, tab}
-use Rattle.numbers.specs.Sorting.{Permutation, sorted}
+use Rattle.numbers.specs.Rows.{row, entry, upTo}
+use Rattle.numbers.specs.Sorting.{Permutation}
 use Rattle.numbers.proofs.RowLaws.{row-ext, upTo-below, upTo-above, getD-row, getD-tab, length-row, length-tab}
 use Rattle.numbers.proofs.SortingLaws.{sorted-permutation, permutation-below}
-use Rattle.taskset.specs.Demands.{hyperperiodOf, demandOf}
-use Rattle.taskset.specs.Limits.{Sized, Within}
+use Rattle.taskset.specs.Demands.{demandOf}
 use Rattle.taskset.specs.Reading.{taskSetOf}
-use Rattle.taskset.proofs.DemandLaws.{demand-range}
 use Rattle.taskset.specs.declared.Fields.{Fields}
-use Rattle.taskset.specs.declared.TaskSet.{TaskSet}
-use Rattle.planning.specs.Order.{precedes, planningOrder}
-use Rattle.planning.proofs.OrderLaws.{planning-front}
+use Rattle.planning.specs.Order.{precedes}
 use Rattle.allocation.specs.Placement.{Problem}
-use Rattle.allocation.specs.TableOrder.{gather, planned, position, scatter}
+use Rattle.allocation.specs.TableOrder.{gather, position, scatter}
 use Rattle.allocation.proofs.Reorder.{order-long, position-of, position-entry, getD-scatter, getD-gather}
 use Rattle.search.specs.Search.{padded}
 use Rattle.search.proofs.Zeros.{zero-at, getD-padded}

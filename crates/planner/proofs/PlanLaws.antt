@@ -3,10 +3,9 @@ use Prim.Native.Nat.{ℕ, zero, suc, _≤_, _<_, zero-le}
 use mathlib.Core.Path.{_≡_, refl, sym, _∙_, ap}
 use mathlib.Core.Bool.{Bool, true, false}
 use mathlib.Core.List.{List}
-use lib.ListN.{length, getD, take, List·getD-eq-default}
+use lib.ListN.{getD, take, List·getD-eq-default}
 use native.Mathlib.Omega.{arith}
 use native.Mathlib.Decide.{decLt}
-use native.Mathlib.Nat.{le-refl}
 use Rattle.numbers.specs.Rows.{row, entry, tab}
 use Rattle.numbers.specs.Sorting.{sorted}
 use Rattle.numbers.proofs.RowLaws.{getD-row, getD-row-above, length-row}
@@ -17,18 +16,15 @@ use Rattle.taskset.specs.Fields.{fieldsOf}
 use Rattle.taskset.specs.Demands.{hyperperiodOf, demandOf}
 use Rattle.taskset.specs.Refusals.{outcomeOf}
 use Rattle.taskset.specs.Reading.{taskSetOf, acceptedWith, readingOf}
-use Rattle.taskset.specs.Limits.{Sized, Within}
 use Rattle.taskset.proofs.DemandLaws.{demand-range}
 use Rattle.taskset.proofs.ReadingLaws.{reading-outcome, reading-decides, reading-accepted}
-use Rattle.taskset.specs.declared.Fields.{Fields}
 use Rattle.taskset.specs.declared.TaskSet.{TaskSet}
 use Rattle.taskset.specs.declared.Reading.{Reading}
 use Rattle.planning.specs.Order.{precedes, planningOrder}
 use Rattle.planning.proofs.OrderLaws.{planning-front}
-use Rattle.allocation.specs.Placement.{Problem}
 use Rattle.allocation.specs.Walk.{Answer, answer, every}
 use Rattle.allocation.specs.TableOrder.{gather, planned, scatter, tableAnswer}
-use Rattle.search.specs.Search.{Ranges, padded, foundOf}
+use Rattle.search.specs.Search.{Ranges, foundOf}
 use Rattle.search.specs.Search as search
 use Rattle.search.specs.declared.Found.{Found}
 use Rattle.planner.specs.Problem.{problemOf, orderOf}

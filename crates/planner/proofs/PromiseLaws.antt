@@ -1,6 +1,6 @@
 -- The plan of a valid table keeps demand 2, and the planner accepts exactly the valid tables.
 use Prim.Native.Nat.{ℕ, zero, suc, _≤_, _<_}
-use mathlib.Core.Path.{_≡_, refl, sym, _∙_, ap}
+use mathlib.Core.Path.{_≡_, refl, sym, _∙_}
 use mathlib.Core.Bool.{Bool, true, false, true≢false}
 use mathlib.Core.List.{List}
 use mathlib.Core.Logic.{_↔_, _≢_}
@@ -13,22 +13,21 @@ use Rattle.refusal.specs.Faults.{Decides}
 use Rattle.refusal.specs.declared.Outcome.{Outcome}
 use Rattle.refusal.specs.declared.Outcome.the-variants as outcome
 use Rattle.taskset.specs.Fields.{fieldsOf}
-use Rattle.taskset.specs.Demands.{hyperperiodOf, demandOf}
+use Rattle.taskset.specs.Demands.{demandOf}
 use Rattle.taskset.specs.Refusals.{outcomeOf}
-use Rattle.taskset.specs.Limits.{Sized, Within, Valid, Fault}
+use Rattle.taskset.specs.Limits.{Within, Valid, Fault}
 use Rattle.taskset.proofs.DemandLaws.{demand-range}
 use Rattle.taskset.proofs.LimitLaws.{table-decides}
 use Rattle.taskset.specs.declared.Fields.{Fields}
 use Rattle.allocation.specs.Placement.{Problem, Feasible, Full, rejected}
 use Rattle.allocation.specs.Walk.{Answer, every}
-use Rattle.allocation.specs.TableOrder.{BestPlan, tableAnswer}
+use Rattle.allocation.specs.TableOrder.{tableAnswer}
 use Rattle.allocation.specs.Guarantee.{Guarantee}
 use Rattle.allocation.proofs.Guarantee.{guaranteed, every-redundant}
 use Rattle.planner.specs.Problem.{problemOf, orderOf}
 use Rattle.planner.specs.Plan.{verdictOf, planned, planFor, refusedFor, answerOf, planOf, outcomeBy}
 use Rattle.planner.specs.Promise.{walkLength, choicesOf, Promise}
 use Rattle.planner.specs.declared.Allocation.{Allocation}
-use Rattle.planner.specs.declared.Verdict.{Verdict}
 use Rattle.planner.specs.declared.Verdict.the-variants.{All, Short, Spent}
 use Rattle.planner.proofs.OrderLaws.{demands-long, order-permutation}
 

@@ -1,6 +1,6 @@
 -- Laws of tests made in order.
 use Prim.Native.Nat.{ℕ, zero, suc}
-use mathlib.Core.Path.{_≡_, refl, sym, _∙_, ap, ap₂}
+use mathlib.Core.Path.{_≡_, refl, _∙_, ap, ap₂}
 use mathlib.Core.List.{List, [], _∷_}
 use mathlib.Core.Bool.{Bool, true, false, not}
 use lib.Dec.{eqb}
@@ -76,6 +76,11 @@ refuseAt-refused (suc k) c d e = (k, refl, same-cause refl e)
 pub refuseAt-zero : (k : ℕ) (c : ℕ → Cause) → k ≡ 0 → refuseAt k c ≡ Accepted
 unfolding refuseAt
 refuseAt-zero k c e = rw e
+
+pub refuse-found : (k : ℕ) (c : ℕ → Cause) → (k ≡ 0 → ⊥) → refuseAt k c ≡ Refused (c k)
+unfolding refuseAt
+refuse-found zero c n = absurd (n refl)
+refuse-found (suc k) c n = refl
 
 -- The steps of a program that makes its tests and joins them.
 refuse-at : (k : ℕ) (c : ℕ → Cause) → refuseIf (not (eqb k 0)) (c k) ≡ refuseAt k c

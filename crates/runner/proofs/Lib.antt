@@ -2,3 +2,4 @@ pub mod SlotLoops
 pub mod TickLaws
 pub mod FreshLaws
 pub mod StartLaws
+pub mod RecordLaws

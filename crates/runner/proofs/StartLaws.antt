@@ -27,7 +27,7 @@ use Rattle.taskset.specs.declared.Reading.{Reading}
 use Rattle.taskset.specs.Fields.{fieldsOf}
 use Rattle.taskset.specs.Refusals.{outcomeOf}
 use Rattle.taskset.specs.Reading.{taskSetOf, acceptedWith, readingOf}
-use Rattle.taskset.specs.Limits.{Within, Fault, Exact}
+use Rattle.taskset.specs.Limits.{Within, Exact}
 use Rattle.taskset.proofs.DemandLaws.{taskSet-exact}
 use Rattle.taskset.proofs.LimitLaws.{table-decides, fault-number}
 use Rattle.taskset.proofs.ReadingLaws.{reading-outcome, reading-accepted}

@@ -14,6 +14,7 @@ ghost use Rattle.refusal.specs.Faults.{Decides};
 ghost use Rattle.refusal.specs.declared.Outcome.the-variants.{Accepted};
 ghost use Rattle.runner.specs.Answers.{answerOf};
 ghost use Rattle.runner.specs.Parts.{better as betterOf, lower as lowerOf, aboveAt, SmallDemands, freshSlotOf};
+ghost use Rattle.runner.specs.Records.{ValidRecord, RecordFault};
 ghost use Rattle.runner.specs.Starts.{placementTest, coreTest, loadTest, placingTests, refusedStart, startWith, startOf, placedTasks, ValidStart, StartFault, Served};
 use edf::Claim;
 use edf::Slot;
@@ -405,6 +406,7 @@ impl Core {
     // One tick: release, choose, run and pass; or number 12 with the record as it was.
     pub fn tick(self, requests: [u32; 16]) -> Ticked
         ensures answer { λ r. ⌜ answerOf r ≡ tickOf (self .slots) requests ⌝ }
+        ensures decides { λ r. ⌜ Decides (ValidRecord (self .slots)) (RecordFault (self .slots)) (r .outcome) ⌝ }
     {
         let slots = self.slots;
         let wrong = first_wrong(slots);

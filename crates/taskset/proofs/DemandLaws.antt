@@ -1,14 +1,13 @@
 -- The hyperperiod and the demands of fields within the limits are exact; and the steps of the loop that takes the running multiple.
-use Prim.Native.Nat.{ℕ, zero, suc, _+_, _*_, _/_, _≤_, _<_, _∣_}
+use Prim.Native.Nat.{ℕ, _+_, _*_, _/_, _≤_, _<_}
 use mathlib.Core.Path.{_≡_, refl, sym, _∙_, ap}
-use mathlib.Core.Bool.{Bool, true, false, cond}
-use lib.Dec.{ltb, eqb}
+use mathlib.Core.Bool.{true, false, cond}
+use lib.Dec.{eqb}
 use native.Mathlib.Omega.{arith}
 use native.Mathlib.Numerals.{add-one}
-use native.Mathlib.Nat.{mul-div-assoc, mul-le-mul-right, mul-le-mul-left, mul-div-le, div-mul-cancel, dvd-mul-left-of-dvd, le-trans, le-of-dvd, le-div-iff-mul-le, one-mul, mul-one, mul-pos}
-use borrow.Author.Tests.{lt-ltb, le-ltb, ltb-false, eq-eqb, ne-eqb}
+use native.Mathlib.Nat.{mul-div-assoc, mul-le-mul-right, mul-div-le, div-mul-cancel, dvd-mul-left-of-dvd, le-trans, le-of-dvd, le-div-iff-mul-le, one-mul, mul-pos}
+use borrow.Author.Tests.{lt-ltb, le-ltb, eq-eqb, ne-eqb}
 use Rattle.numbers.specs.First.{first}
-use Rattle.numbers.specs.Rows.{row}
 use Rattle.numbers.specs.Multiples.{lcm, lcms, IsLcm}
 use Rattle.numbers.proofs.FirstLaws.{Seeking, seek-start, seek-none, looked-on, looked-found, first-clear}
 use Rattle.numbers.proofs.MultipleLaws.{lcms-is, lcms-mono}
@@ -17,7 +16,7 @@ use Rattle.taskset.specs.Fields.{periodAt, budgetAt}
 use Rattle.taskset.specs.Demands.{multipleTo, hyperperiodOf, demandOf}
 use Rattle.taskset.specs.Refusals.{passes}
 use Rattle.taskset.specs.Reading.{multipleOf, taskSetOf}
-use Rattle.taskset.specs.Limits.{Sized, Within, Exact}
+use Rattle.taskset.specs.Limits.{Within, Exact}
 use Rattle.taskset.specs.declared.Fields.{Fields}
 use Rattle.taskset.specs.declared.Multiple.{Multiple}
 

@@ -1,20 +1,18 @@
 -- A table is accepted exactly if it is within the limits, and refused with a cause exactly if that is its first fault.
 use Prim.Native.Nat.{ℕ, zero, suc, _+_, _*_, _-_, _≤_, _<_}
-use mathlib.Core.Path.{_≡_, refl, sym, _∙_, ap, subst}
+use mathlib.Core.Path.{_≡_, refl, sym, _∙_, subst}
 use mathlib.Core.List.{List, _++_}
-use mathlib.Core.Bool.{Bool, true, false, not, true≢false}
-use mathlib.Core.Logic.{_⊎_, inl, inr, _↔_}
-use lib.Dec.{ltb, eqb}
+use mathlib.Core.Bool.{true≢false}
 use lib.ListN.{length}
 use native.Mathlib.Omega.{arith}
 use native.Mathlib.Numerals.{add-one}
 use borrow.Author.Tests.{ltb-true, ltb-false, lt-ltb, eqb-true, eqb-false, ne-eqb, not-true, not-false}
-use Rattle.numbers.specs.Bounds.{outside, Outside}
-use Rattle.numbers.specs.First.{first, FirstAt}
+use Rattle.numbers.specs.Bounds.{Outside}
+use Rattle.numbers.specs.First.{first}
 use Rattle.numbers.proofs.BoundLaws.{inside, is-outside, outside-is, outside-not-inside}
 use Rattle.numbers.proofs.FirstLaws.{Holds, first-zero}
 use Rattle.refusal.specs.Causes.{numberOf}
-use Rattle.refusal.specs.Tests.{refuseIf, refuseAt, inOrder}
+use Rattle.refusal.specs.Tests.{inOrder}
 use Rattle.refusal.specs.Faults.{Decides}
 use Rattle.refusal.proofs.CauseLaws.{number-range}
 use Rattle.refusal.proofs.TestLaws.{accepted≢refused, then-accepted, refuseIf-accepted, refuseIf-refused, refuseIf-true, refuseAt-accepted}

@@ -1,11 +1,10 @@
 -- What the reader's answer says, and the steps of the program that makes it.
 use Prim.Native.Nat.{ℕ, _≤_}
-use mathlib.Core.Path.{_≡_, refl, sym, _∙_, ap}
+use mathlib.Core.Path.{_≡_, refl, sym, _∙_}
 use mathlib.Core.List.{List}
-use mathlib.Core.Logic.{_⊎_, inl, inr}
 use Rattle.refusal.specs.Tests.{_then_, inOrder}
 use Rattle.refusal.specs.Faults.{Decides}
-use Rattle.refusal.proofs.TestLaws.{accepted≢refused, then-first, then-refused}
+use Rattle.refusal.proofs.TestLaws.{then-first, then-refused}
 use Rattle.refusal.proofs.FaultLaws.{inOrder-append}
 use Rattle.refusal.specs.declared.Cause.{Cause}
 use Rattle.refusal.specs.declared.Outcome.{Outcome}

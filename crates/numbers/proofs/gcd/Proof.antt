@@ -1,6 +1,4 @@
 -- A turn of Euclid's algorithm keeps the greatest common divisor; the remainder falls.
-use borrow.Author.Needs.{needs}
-use native.Mathlib.Omega.{arith}
 use mathlib.Core.Path.{_≡_, refl, sym, _∙_, ap}
 use native.Mathlib.Nat.{mod-lt, pos-of-ne-zero}
 use Rattle.numbers.specs.Multiples.{gcd}

@@ -1,5 +1,4 @@
 -- The product of two 32-bit numbers fits 64 bits.
-use native.Mathlib.Omega.{arith}
 use Rattle.numbers.proofs.Width.{product-fits}
 use borrow.Author.Needs.{needs}
 use Rattle.numbers.proofs.product.Statement.{statement}

@@ -1,6 +1,5 @@
 -- The running multiple, task by task, until it passes 1,000,000.
 use Prim.Native.Nat.{_-_}
-use native.Mathlib.Omega.{arith}
 use Rattle.taskset.proofs.DemandLaws.{Multiplying, multiply-start, multiply-next, multiply-passed, multiply-done}
 use borrow.Author.Needs.{needs}
 use Rattle.taskset.proofs.common_multiple.Statement.{statement}

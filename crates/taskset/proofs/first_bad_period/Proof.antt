@@ -1,5 +1,5 @@
 -- A search for the first task with a bad period.
-use Prim.Native.Nat.{_≤_, _-_}
+use Prim.Native.Nat.{_-_}
 use Rattle.numbers.proofs.FirstLaws.{Seeking, seek-start, seek-none, looked-on, looked-found}
 use Rattle.taskset.specs.Refusals.{badPeriod}
 use borrow.Author.Needs.{needs}
