@@ -1,6 +1,7 @@
 // What the programs share: reading their input and printing numbers.
 ghost use Prim.Native.Nat.{_<_};
 ghost use Rattle.io.specs.Counts.{Counts};
+use refusal::Outcome;
 
 const IN: i32 = 0;
 
@@ -45,4 +46,15 @@ pub fn text(bytes: &[u8]) {
 
 pub fn end_line() {
     io::write_all(OUT, b"\n");
+}
+
+// Number and place of an outcome; zeros where nothing is refused.
+pub fn print_outcome(outcome: Outcome) {
+    match outcome {
+        Outcome::Accepted => text(b"0 0"),
+        Outcome::Refused(cause) => {
+            print(refusal::number(cause) as u64);
+            field(refusal::place(cause) as u64);
+        }
+    }
 }

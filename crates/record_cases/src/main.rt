@@ -3,20 +3,8 @@
 // ticks owed) and sixteen requests, each number of 4 bytes, low byte first.
 // A line: number, place, run, late, then ticks until release and ticks owed of each slot of the record handed back.
 use edf::Slot;
-use refusal::Outcome;
 use runner::Core;
 use runner::Ticked;
-
-// Number and place; zeros where nothing is refused.
-fn print_outcome(outcome: Outcome) {
-    match outcome {
-        Outcome::Accepted => console::text(b"0 0"),
-        Outcome::Refused(cause) => {
-            console::print(refusal::number(cause) as u64);
-            console::field(refusal::place(cause) as u64);
-        }
-    }
-}
 
 fn print_slots(slots: [Slot; 16]) {
     let mut k = 0usize;
@@ -32,7 +20,7 @@ fn print_tick(ticked: Ticked) {
     let outcome = ticked.outcome;
     let core = ticked.core;
     let slots = core.slots;
-    print_outcome(outcome);
+    console::print_outcome(outcome);
     console::field(ticked.run as u64);
     console::field(ticked.late as u64);
     print_slots(slots);

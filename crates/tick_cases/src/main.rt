@@ -7,20 +7,9 @@ use runner::Core;
 use runner::Started;
 use runner::Ticked;
 
-// Number and place; zeros where nothing is refused.
-fn print_outcome(outcome: Outcome) {
-    match outcome {
-        Outcome::Accepted => console::text(b"0 0"),
-        Outcome::Refused(cause) => {
-            console::print(refusal::number(cause) as u64);
-            console::field(refusal::place(cause) as u64);
-        }
-    }
-}
-
 fn print_tick(ticked: Ticked) {
     let outcome = ticked.outcome;
-    print_outcome(outcome);
+    console::print_outcome(outcome);
     console::field(ticked.run as u64);
     console::field(ticked.late as u64);
     console::end_line();
@@ -80,7 +69,7 @@ fn run_core(table: &[u8], placement: &[u8]) -> bool {
     }
     let started = Core::fresh(table, placement, head[0]);
     let outcome = started.outcome;
-    print_outcome(outcome);
+    console::print_outcome(outcome);
     console::end_line();
     run_ticks(started, wire::size(head[1]) + 256 * wire::size(head[2]))
 }
