@@ -10,7 +10,7 @@ use Rattle.wire.specs.Bytes.{wordAt}
 use Rattle.taskset.specs.Fields.{fieldsOf}
 use Rattle.taskset.specs.Demands.{multipleTo, hyperperiodOf, demandOf}
 use Rattle.taskset.specs.Refusals.{badPeriod, badBudget, passes, outcomeOf}
-use Rattle.taskset.specs.Reading.{taskSetOf}
+use Rattle.taskset.specs.Reading.{taskSetOf, acceptedWith, answerOf as readingAnswer, readingOf}
 use Rattle.planning.specs.Order.{precedes}
 use Rattle.allocation.specs.Placement as placement
 use Rattle.allocation.specs.Walk.{upFrom, choices, stepInto, storedAfter, boundAfter, entered, tryAll, visit, trace, stored, answer}
@@ -25,5 +25,5 @@ use Rattle.runner.specs.Starts.{placementTest, coreTest, loadTest, refusedStart
 use Rattle.guarantees.specs.Rows.{rows, AllHold}
 
 pub rows-hold : AllHold rows
-unfolding rows first firstFrom row tab upTo sumOver sumTo euclid gcd lcm lcms insert sorted _then_ refuseIf refuseAt inOrder wordAt fieldsOf multipleTo hyperperiodOf demandOf badPeriod badBudget passes outcomeOf taskSetOf precedes placement.demandOn upFrom choices stepInto storedAfter boundAfter entered tryAll visit trace stored answer position scatter tableAnswer problemOf orderOf verdictOf planned planFor refusedFor answerOf planOf testAt firstSlot release releaseAll chosen passAll stepped refused tick freshSlot freshSlots demandOn load aboveAt placementTest coreTest loadTest refusedStart startWith startOf
-rows-hold = (refl, (refl, (refl, (refl, (refl, (refl, (refl, (refl, (refl, ((refl, refl, refl), tt))))))))))
+unfolding rows first firstFrom row tab upTo sumOver sumTo euclid gcd lcm lcms insert sorted _then_ refuseIf refuseAt inOrder wordAt fieldsOf multipleTo hyperperiodOf demandOf badPeriod badBudget passes outcomeOf taskSetOf acceptedWith readingAnswer readingOf precedes placement.demandOn upFrom choices stepInto storedAfter boundAfter entered tryAll visit trace stored answer position scatter tableAnswer problemOf orderOf verdictOf planned planFor refusedFor answerOf planOf testAt firstSlot release releaseAll chosen passAll stepped refused tick freshSlot freshSlots demandOn load aboveAt placementTest coreTest loadTest refusedStart startWith startOf
+rows-hold = (refl, (refl, (refl, (refl, (refl, (refl, (refl, (refl, (refl, (refl, ((refl, refl, refl), tt)))))))))))

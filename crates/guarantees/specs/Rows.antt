@@ -7,6 +7,7 @@ use Rattle.numbers.specs.Rows.{row, entry}
 use Rattle.refusal.specs.Causes.{numberOf, placeOf}
 use Rattle.refusal.specs.declared.Cause.{Cause}
 use Rattle.refusal.specs.declared.Cause.the-variants.{Hyperperiod}
+use Rattle.taskset.specs.Reading.{readingOf}
 use Rattle.planner.specs.Plan.{planOf}
 use Rattle.planner.specs.declared.Verdict.{Verdict}
 use Rattle.planner.specs.declared.Verdict.the-variants.{All, Short, Spent, Refused}
@@ -26,14 +27,16 @@ words (x ∷ xs) = word x ++ words xs
 abbrev pub table : ℕ → List ℕ → List ℕ → List ℕ
 table m periods times = length periods ∷ m ∷ (words periods ++ words times)
 
--- A row: a plan with its verdict, cores, left-out demand and steps; a refusal with its number and place; the tasks run by the ticks
--- of a fresh core.
+-- A row: a table's hyperperiod; a plan with its verdict, cores, left-out demand and steps; a refusal with its number and place;
+-- the tasks run by the ticks of a fresh core.
 pub data Row : Type 0 where
+  frames : List ℕ → ℕ → Row
   plans : List ℕ → ℕ → Verdict → List ℕ → ℕ → ℕ → Row
   refuses : List ℕ → ℕ → Cause → ℕ → ℕ → Row
   ticks : List ℕ → List ℕ → ℕ → List (List ℕ) → List ℕ → Row
 
 abbrev pub Holds : Row → Type 0
+Holds (frames bytes hyperperiod) = readingOf bytes .tasks .hyperperiod ≡ hyperperiod
 Holds (plans bytes limit verdict cores rejected steps) =
     planOf bytes limit ≡ record { verdict = verdict; placement = row 0 (length cores) (entry cores); rejected = rejected; steps = steps }
 Holds (refuses bytes limit cause number place) =
@@ -64,6 +67,7 @@ unfoldable pub rows : List Row
 rows =
     plans (table 1 (10 ∷ 10 ∷ []) (3 ∷ 7 ∷ [])) 1000000 All (1 ∷ 1 ∷ []) 0 2
     ∷ plans (table 1 (10 ∷ 10 ∷ []) (3 ∷ 8 ∷ [])) 1000000 Short (0 ∷ 1 ∷ []) 3 2
+    ∷ frames rowC 6
     ∷ plans rowC 1000000 All (1 ∷ 1 ∷ 1 ∷ []) 0 3
     ∷ plans (table 2 (10 ∷ 10 ∷ 10 ∷ 10 ∷ 10 ∷ []) (5 ∷ 5 ∷ 4 ∷ 3 ∷ 3 ∷ [])) 1000000 All (1 ∷ 1 ∷ 2 ∷ 2 ∷ 2 ∷ []) 0 5
     ∷ plans listing 6 Short (0 ∷ 1 ∷ 1 ∷ []) 7 6
