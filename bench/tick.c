@@ -1,18 +1,11 @@
 /* Nanoseconds per tick of the core runner, beside the same tick in plain C in the same run.
    The ratio is Rattle's speed by C's: 1.0 is as fast as C. `bench/run` builds and runs it.      */
 
-#define _POSIX_C_SOURCE 199309L
-
-#include <stddef.h>
-#include <stdint.h>
-#include <stdio.h>
-#include <time.h>
+#include "harness.h"
 
 /* The runner under test: makes a fresh core 1 with all tasks of the table on it, gives it full
    requests (the largest number, each) for so many ticks, and returns the sum of the tasks run. */
 uint64_t bench_tick(const uint8_t *table, size_t table_len, uint32_t ticks);
-
-enum { TASKS = 16, ROUNDS = 5 };
 
 #define TICKS 2000000u
 
@@ -98,19 +91,6 @@ static const struct sample {
      {10, 20, 20, 40, 50, 80, 100, 100, 200, 250, 400, 500, 1000, 2000, 5000, 10000},
      {1, 1, 1, 1, 1, 1, 1, 1, 1, 1, 1, 1, 1, 1, 1, 1}},
 };
-
-static double now(void)
-{
-    struct timespec t;
-    clock_gettime(CLOCK_MONOTONIC, &t);
-    return (double)t.tv_sec + 1e-9 * (double)t.tv_nsec;
-}
-
-static void put_word(uint8_t *at, uint32_t word)
-{
-    for (int k = 0; k < 4; k++)
-        at[k] = (uint8_t)(word >> (8 * k));
-}
 
 int main(void)
 {

@@ -1,17 +1,12 @@
 /* Steps per second of the planner's search, beside the same walk in plain C in the same run.
    The ratio is Rattle's speed by C's: 1.0 is as fast as C. `bench/run` builds and runs it.      */
 
-#define _POSIX_C_SOURCE 199309L
-
-#include <stddef.h>
-#include <stdint.h>
-#include <stdio.h>
-#include <time.h>
+#include "harness.h"
 
 /* The search under test: plans a table and returns the steps made. */
 uint32_t bench_search(const uint8_t *table, size_t table_len, uint32_t limit);
 
-enum { TASKS = 16, CORES = 3, ROUNDS = 5 };
+enum { CORES = 3 };
 
 /* The walk in plain C. Demands and cores are in planning order. */
 
@@ -91,19 +86,6 @@ static const struct sample {
     {"load within three cores", UINT32_MAX, 1000,
      {197, 197, 190, 186, 186, 184, 184, 182, 180, 176, 173, 173, 173, 172, 172, 171}},
 };
-
-static double now(void)
-{
-    struct timespec t;
-    clock_gettime(CLOCK_MONOTONIC, &t);
-    return (double)t.tv_sec + 1e-9 * (double)t.tv_nsec;
-}
-
-static void put_word(uint8_t *at, uint32_t word)
-{
-    for (int k = 0; k < 4; k++)
-        at[k] = (uint8_t)(word >> (8 * k));
-}
 
 int main(void)
 {
