@@ -32,7 +32,7 @@ fn pick(c: usize, i: usize, x: u32, y: u32) -> u32
     if c == i { x } else { y }
 }
 
-// The loads with that of choice c changed. Without a computed index they stay in registers.
+// The loads with that of choice c changed, each entry picked by its own test.
 fn with_load(loads: [u32; 5], c: usize, x: u32) -> [u32; 5]
     requires { ⌜ c < 5 ⌝ }
     ensures { λ r. ⌜ r ≡ set loads c x ⌝ }
