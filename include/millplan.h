@@ -16,15 +16,15 @@ enum {
     MILLPLAN_SHORT = 1,     /* some tasks are left out; no plan places more load */
     MILLPLAN_SPENT = 2,     /* the step limit ran out: the best plan found so far, if any */
 
-    /* Refused: 100 plus the number of the first fault, in this order. */
-    MILLPLAN_NO_HEADER = 101,       /* fewer than 2 table bytes */
+    /* Refused: 100 plus the number of the first cause in this order that holds. */
+    MILLPLAN_TOO_SHORT = 101,       /* fewer than 2 table bytes */
     MILLPLAN_TASK_COUNT = 102,      /* number of tasks not 1 to 16 */
     MILLPLAN_CORE_COUNT = 103,      /* number of cores not 1 to 4 */
-    MILLPLAN_TABLE_LENGTH = 104,    /* table length not 2 + 8 * tasks */
+    MILLPLAN_LENGTH = 104,          /* table length not 2 + 8 * tasks */
     MILLPLAN_PERIOD = 105,          /* a period not 1 to 10,000 */
-    MILLPLAN_TIME = 106,            /* a time of 0, or above its period */
-    MILLPLAN_FRAME = 107,           /* least common multiple of the periods above 1,000,000 */
-    MILLPLAN_PLAN_LENGTH = 108      /* plan buffer shorter than the number of tasks */
+    MILLPLAN_BUDGET = 106,          /* a time of 0, or above its period */
+    MILLPLAN_HYPERPERIOD = 107,     /* least common multiple of the periods above 1,000,000 */
+    MILLPLAN_BUFFER = 108           /* plan buffer shorter than the number of tasks */
 };
 
 /* Plans a table of n tasks on m cores.
@@ -39,7 +39,10 @@ enum {
  * plan_len   number of bytes at plan, at least n. Bytes after the first n keep their values.
  *
  * On MILLPLAN_ALL, _SHORT and _SPENT the n bytes are written, and no core is overloaded. A
- * MILLPLAN_SPENT with no plan found leaves out all tasks. On a refusal nothing is written. */
+ * MILLPLAN_SPENT with no plan found leaves out all tasks. On a refusal nothing is written.
+ *
+ * The archive is for x86-64. It needs memcpy, takes less than 1,024 bytes of stack, has no heap and
+ * no writable data, and may be called by several threads at once. */
 uint32_t millplan_plan(const uint8_t *table, size_t table_len, uint32_t limit,
                        uint8_t *plan, size_t plan_len);
 

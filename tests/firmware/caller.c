@@ -1,19 +1,18 @@
 /* Calls the firmware entry as the controller does, and checks every byte it may and may not touch.
 
-   gcc -std=c11 -O2 -Wall -Wextra -Iinclude tests/firmware/caller.c PATH/libfirmware.a -o caller
-   ./caller [SEED [TABLES]]                                                                     */
+   usage: caller [SEED [TABLES]] */
 
 #include <stdio.h>
 #include <stdlib.h>
-#include <string.h>
 
 #include "millplan.h"
+#include "plain.h"
 
-enum { MOST_TASKS = 16, GUARD = 32, FILL = 0xA5, MOST_BYTES = 2 + 8 * MOST_TASKS };
+enum { GUARD = 32, FILL = 0xA5 };
 
 #define USUAL_LIMIT 1000000u
 
-static unsigned long checks, failed;
+static unsigned long checks, failed, seen[128]; /* seen: random tables by code */
 
 static void check(int holds, const char *what, unsigned long which)
 {
@@ -23,32 +22,6 @@ static void check(int holds, const char *what, unsigned long which)
         if (failed <= 20)
             printf("FAILED: %s (%lu)\n", what, which);
     }
-}
-
-/* Tables. */
-
-struct table {
-    uint8_t bytes[MOST_BYTES + 8];
-    size_t length;
-};
-
-static void put_word(uint8_t *at, uint32_t word)
-{
-    for (int k = 0; k < 4; k++)
-        at[k] = (uint8_t)(word >> (8 * k));
-}
-
-static struct table table_of(unsigned n, unsigned m, const uint32_t *periods,
-                             const uint32_t *times)
-{
-    struct table t = {.length = 2 + 8 * n};
-    t.bytes[0] = (uint8_t)n;
-    t.bytes[1] = (uint8_t)m;
-    for (unsigned k = 0; k < n; k++) {
-        put_word(t.bytes + 2 + 4 * k, periods[k]);
-        put_word(t.bytes + 2 + 4 * (n + k), times[k]);
-    }
-    return t;
 }
 
 /* One call with guard bytes around the table and around the plan buffer. */
@@ -215,143 +188,19 @@ static void check_refusals(void)
     check(millplan_plan(NULL, 0, USUAL_LIMIT, NULL, 0) == 101, "1: nothing at all", 0);
 }
 
-/* The planner of the paper once more, as a plain recursive program. */
-
-struct walk {
-    unsigned n, m;
-    uint64_t frame, weight[MOST_TASKS], load[5], excess, mark; /* load[0]: weight left out */
-    uint64_t steps, limit;
-    uint8_t path[MOST_TASKS], stored[MOST_TASKS];
-    int spent;
-};
-
-static void walk_from(struct walk *w, unsigned depth)
-{
-    if (depth == w->n) {
-        memcpy(w->stored, w->path, sizeof w->stored);
-        w->mark = w->load[0];
-        return;
-    }
-    for (unsigned turn = 1; turn <= w->m + 1 && !w->spent; turn++) {
-        const unsigned choice = turn <= w->m ? turn : 0;
-        const uint64_t load = w->load[choice] + w->weight[depth];
-        const uint64_t left_out = choice == 0 ? load : w->load[0];
-        if (choice != 0 && load > w->frame)
-            continue;
-        if ((left_out > w->excess ? left_out : w->excess) >= w->mark)
-            continue;
-        if (w->steps == w->limit) {
-            w->spent = 1;
-            return;
-        }
-        w->steps++;
-        w->path[depth] = (uint8_t)choice;
-        w->load[choice] = load;
-        walk_from(w, depth + 1);
-        w->load[choice] -= w->weight[depth];
-    }
-}
-
-static uint64_t common_multiple(uint64_t a, uint64_t b)
-{
-    uint64_t x = a, y = b;
-    while (y != 0) {
-        const uint64_t rest = x % y;
-        x = y;
-        y = rest;
-    }
-    return a / x * b;
-}
-
-/* The code for good sizes and length; core numbers by task. */
-static uint32_t plain_plan(unsigned n, unsigned m, const uint32_t *periods, const uint32_t *times,
-                           uint32_t limit, size_t plan_len, uint8_t *cores)
-{
-    struct walk w = {.n = n, .m = m, .frame = 1, .limit = limit};
-    uint64_t by_task[MOST_TASKS], total = 0;
-    unsigned order[MOST_TASKS];
-
-    for (unsigned k = 0; k < n; k++)
-        if (periods[k] < 1 || periods[k] > 10000)
-            return 105;
-    for (unsigned k = 0; k < n; k++)
-        if (times[k] < 1 || times[k] > periods[k])
-            return 106;
-    for (unsigned k = 0; k < n; k++) {
-        w.frame = common_multiple(w.frame, periods[k]);
-        if (w.frame > 1000000)
-            return 107;
-    }
-    if (plan_len < n)
-        return 108;
-
-    for (unsigned k = 0; k < n; k++) {
-        by_task[k] = times[k] * w.frame / periods[k];
-        total += by_task[k];
-        unsigned at = k;
-        for (; at > 0 && by_task[order[at - 1]] < by_task[k]; at--)
-            order[at] = order[at - 1];
-        order[at] = k;
-    }
-    for (unsigned k = 0; k < n; k++)
-        w.weight[k] = by_task[order[k]];
-    w.excess = total > m * w.frame ? total - m * w.frame : 0;
-    w.mark = total + 1;
-    walk_from(&w, 0);
-
-    uint64_t left_out = 0;
-    for (unsigned k = 0; k < n; k++) {
-        cores[order[k]] = w.stored[k];
-        left_out += w.stored[k] == 0 ? w.weight[k] : 0;
-    }
-    return w.spent ? 2 : left_out > 0 ? 1 : 0;
-}
-
-/* Random tables. */
-
-static uint64_t state;
-
-static uint32_t below(uint32_t bound) /* splitmix64 */
-{
-    uint64_t z = state += 0x9E3779B97F4A7C15u;
-    z = (z ^ (z >> 30)) * 0xBF58476D1CE4E5B9u;
-    z = (z ^ (z >> 27)) * 0x94D049BB133111EBu;
-    return (uint32_t)((z ^ (z >> 31)) >> 32) % bound;
-}
-
-static uint32_t random_period(unsigned family)
-{
-    static const uint32_t choices[4][8] = {
-        {10, 10, 10, 10, 10, 10, 10, 10},
-        {1, 2, 3, 4, 6, 8, 12, 24},
-        {10, 20, 50, 100, 400, 1000, 2500, 10000},
-        {9009, 9240, 9360, 7920, 5040, 720, 16, 13},
-    };
-    return family < 4 ? choices[family][below(8)] : 1 + below(100);
-}
+/* Random tables, every fourth with damage: the code and every byte are the plain planner's. */
 
 static void check_random(unsigned long which)
 {
-    static const uint32_t wrong[] = {0, 10001, 65537, UINT32_MAX};
-    const unsigned n = 1 + below(below(8) == 0 ? 16 : 7), m = 1 + below(4);
-    const unsigned family = below(5), part = 1 + below(4);
-    uint32_t periods[MOST_TASKS], times[MOST_TASKS];
-    for (unsigned k = 0; k < n; k++) {
-        periods[k] = random_period(family);
-        times[k] = 1 + below((periods[k] + part - 1) / part);
-    }
-    if (below(20) == 0)
-        periods[below(n)] = wrong[below(4)];
-    if (below(20) == 0)
-        times[below(n)] = wrong[below(4)];
-
-    const uint32_t limits[] = {below(2 * n), below(100), 1 + below(5000), 20000};
+    const struct table t = random_table();
+    const unsigned n = t.bytes[0] % 17;
+    const uint32_t limits[] = {below(2 * n + 1), below(100), 1 + below(5000), 20000};
     const uint32_t limit = limits[below(4)];
-    const size_t plan_len = below(10) == 0 ? below(n) : n + below(4);
-    const struct table t = table_of(n, m, periods, times);
+    const size_t plan_len = below(10) == 0 ? below(n + 1) : n + below(4);
     uint8_t cores[MOST_TASKS] = {0};
-    const uint32_t code = plain_plan(n, m, periods, times, limit, plan_len, cores);
+    const uint32_t code = plain_plan(&t, limit, plan_len, cores);
     const unsigned written = code >= 100 ? 0 : n;
+    seen[code % 128]++;
 
     const struct reply r = call(&t, limit, plan_len);
     check(r.code == code && r.clean && memcmp(r.plan, cores, written) == 0
@@ -368,6 +217,8 @@ int main(int argc, char **argv)
     check_refusals();
     for (unsigned long k = 1; k <= tables; k++)
         check_random(k);
+    for (unsigned code = 0; code <= 108; code++)
+        check(tables < 10000 || (code > 2 && code <= 100) || seen[code] > 0, "code drawn", code);
 
     printf("%lu checks, %lu failed\n", checks, failed);
     return failed == 0 ? 0 : 1;

@@ -1,64 +1,42 @@
-"""What the makers of stored cases share: tables as bytes, random tables, and the files."""
+"""Makes cases for the program `cases` and the lines it must print.
+
+usage: python3 cases.py stored|fresh SEED STDIN STDOUT
+
+`stored` makes the file that the gate runs, `fresh` one of another size, its cases mixed. Each call
+draws from a row of its own, so that a further call leaves the cases of the others as they are."""
 
 import sys
 from random import Random
 
-# Hyperperiods with many divisors, small and large, and some with few.
-FRAMES = [1, 2, 6, 7, 10, 12, 24, 30, 60, 100, 120, 128, 210, 360, 720, 840, 1000, 2520, 5040,
-          9973, 10000, 27720, 55440, 65536, 100000, 110880, 166320, 262144, 277200, 332640,
-          498960, 531441, 554400, 665280, 720720, 823543, 997002, 1000000]
+import frame
+from calls import CALLS
 
 
-def table_of(m, periods, budgets):
-    """A table with these numbers, whether or not they are allowed."""
-    words = list(periods) + list(budgets)
-    return bytes([len(periods), m]) + b"".join(low_first(w, 4) for w in words)
+def make(kind, seed):
+    """Pairs of a case's bytes and its lines."""
+    pairs = []
+    for call in CALLS:
+        rng = Random(f"{seed} {call.CODE}")
+        count = call.STORED if kind == "stored" else call.FRESH
+        inputs = call.edges() + [call.draw(rng) for _ in range(count)]
+        pairs += [(frame.case(call.CODE, call.contents(*given)),
+                   "".join(map(frame.line, call.lines(*given)))) for given in inputs]
+    if kind == "fresh":
+        Random(seed).shuffle(pairs)
+    return pairs
 
 
-def low_first(number, size):
-    return number.to_bytes(size, "little")
+def main():
+    if len(sys.argv) != 5 or sys.argv[1] not in ("stored", "fresh"):
+        sys.exit("usage: python3 cases.py stored|fresh SEED STDIN STDOUT")
+    kind, seed, stdin, stdout = sys.argv[1:]
+    pairs = make(kind, seed)
+    with open(stdin, "wb") as file:
+        file.writelines(data for data, _ in pairs)
+    with open(stdout, "w", newline="\n") as file:
+        file.writelines(text for _, text in pairs)
+    print(f"{len(pairs)} cases")
 
 
-def divisors(frame, longest=10_000):
-    """The periods, up to `longest`, that divide a hyperperiod."""
-    return [d for d in range(1, min(frame, longest) + 1) if frame % d == 0]
-
-
-def random_periods(rng, n):
-    """Periods with a common hyperperiod; short lists of choices make many equal ones."""
-    choices = divisors(rng.choice(FRAMES))
-    if rng.random() < 0.5:
-        choices = rng.sample(choices, min(len(choices), rng.randint(1, 3)))
-    return [rng.choice(choices) for _ in range(n)]
-
-
-def random_table(rng, n, m):
-    """An accepted table. Its load is often about what the cores hold, at times far below or above;
-    every third table is made of few different budgets, so that equal demands are common."""
-    periods = random_periods(rng, n)
-    load = rng.choice([rng.uniform(0.1, 1.6), rng.uniform(0.8, 1.2)])
-    share = min(1, load * m / n)
-    if rng.random() < 1 / 3:
-        parts = [rng.choice([1 / 4, 1 / 3, 1 / 2, 2 / 3, share]) for _ in range(n)]
-    else:
-        parts = [rng.uniform(0, min(1, 2 * share)) for _ in range(n)]
-    budgets = [max(1, round(p * part)) for p, part in zip(periods, parts)]
-    return table_of(m, periods, budgets)
-
-
-def arguments():
-    """SEED COUNT IN_FILE OUT_FILE from the command line."""
-    if len(sys.argv) != 5:
-        sys.exit(f"usage: python3 {sys.argv[0]} SEED COUNT IN_FILE OUT_FILE")
-    seed, count, in_file, out_file = sys.argv[1:]
-    return Random(int(seed)), int(count), in_file, out_file
-
-
-def write_cases(cases, lines, in_file, out_file):
-    """The count and the cases into one file, the expected lines into the other."""
-    assert len(cases) < 65536
-    with open(in_file, "wb") as file:
-        file.write(low_first(len(cases), 2) + b"".join(cases))
-    with open(out_file, "w", newline="\n") as file:
-        file.writelines(" ".join(map(str, line)) + "\n" for line in lines)
-    print(f"{len(cases)} cases")
+if __name__ == "__main__":
+    main()

@@ -7,10 +7,8 @@ import subprocess
 import sys
 from random import Random
 
-from cases import random_table
-from plan_cases import USUAL_LIMIT, telling_tables
-from plans import plan
-from table_cases import paper_rows, shapes
+from plans import USUAL_LIMIT, plan
+from samples import paper_rows, random_table, shapes, telling_tables
 from tables import read_table
 
 MOST_READ = 131

@@ -9,6 +9,8 @@ from tables import Refusal, read_table
 
 ALL, SHORT, SPENT = 0, 1, 2
 
+USUAL_LIMIT = 1_000_000
+
 # Up to here all placements are tried: at most 5^6 of them.
 MOST_TRIED = 6
 
@@ -38,6 +40,11 @@ def check_complete_walk(table):
     assert placement == best_placement(tasks) and not spent
 
 
+def walk_length(table):
+    """The steps of the complete walk of an accepted table."""
+    return steps_and_stored(read_table(table), None)[0]
+
+
 def demand_on(choice, demands, placement):
     """The load of a core, or for choice 0 the rejected demand."""
     return sum(demand for demand, chosen in zip(demands, placement) if chosen == choice)
@@ -47,11 +54,12 @@ def demand_on(choice, demands, placement):
 
 def best_placement(tasks):
     """Of all feasible placements the one that rejects least, and of these the first in order."""
-    cores = range(1, tasks.m + 1)
 
     def feasible(placement):
-        return all(demand_on(core, tasks.demands, placement) <= tasks.hyperperiod
-                   for core in cores)
+        loads = [0] * (tasks.m + 1)
+        for demand, choice in zip(tasks.demands, placement):
+            loads[choice] += demand
+        return max(loads[1:]) <= tasks.hyperperiod
 
     def rank(placement):
         in_planning_order = [placement[task - 1] for task in tasks.order]

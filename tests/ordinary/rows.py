@@ -1,11 +1,11 @@
-"""Holds the ordinary programs against rows a to l of the scope paper."""
+"""Holds the ordinary programs against rows a to l of the scope paper, and rows worked by hand."""
 
-from cases import table_of
+from samples import LARGEST_WORD, table_of
 from plans import ALL, SHORT, SPENT, plan
 from tables import Refusal, read_table
 from ticks import run_core
 
-FULL = [2**32 - 1] * 16
+FULL = [LARGEST_WORD] * 16
 ROW_C = table_of(1, [2, 3, 6], [1, 1, 1])
 
 
@@ -16,8 +16,8 @@ def planned(m, periods, budgets, limit=1_000_000):
     return answer.verdict, cores, answer.rejected, answer.steps
 
 
-def runs(all_requests):
-    return [answer.run for answer in run_core(ROW_C, [1, 1, 1], 1, all_requests)]
+def runs(all_requests, table=ROW_C):
+    return [answer.run for answer in run_core(table, [1] * table[0], 1, all_requests)]
 
 
 TENS = [10] * 3
@@ -38,7 +38,12 @@ ROWS = {
     "l": read_table(bytes([1])) == Refusal(1, 0)
          and read_table(bytes([17, 1])) == Refusal(2, 0)
          and read_table(table_of(1, [10], [11])) == Refusal(6, 1),
-    "trap": planned(1, TENS, [7, 6, 3]) == (SHORT, [1, 0, 1], 6, 3),
+    "heaviest": planned(1, TENS, [7, 6, 3]) == (SHORT, [1, 0, 1], 6, 3),
+    "excess": planned(2, [10] * 5, [5, 5, 5, 5, 1]) == (SHORT, [1, 1, 2, 2, 0], 1, 5),
+    "equal": planned(1, [10] * 2, [6, 6]) == (SHORT, [1, 0], 6, 2),
+    "full": planned(2, TENS, [10, 10, 1]) == (SHORT, [1, 2, 0], 1, 3),
+    "beaten": planned(1, [10] * 5, [8, 6, 3, 3, 3], 10) == (SPENT, [0, 1, 1, 0, 0], 14, 10),
+    "less": runs([[1] + FULL[1:]] * 3, table_of(1, [3], [2])) == [1, 0, 0],
 }
 
 if __name__ == "__main__":

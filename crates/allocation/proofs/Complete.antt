@@ -11,12 +11,13 @@ use lib.ListN.{length, length-append}
 use lib.Seq.{append-snoc, getD-append-seam}
 use Rattle.allocation.specs.Placement.{Problem, Feasible, rejected, load}
 use Rattle.allocation.specs.Best.{Earlier, Before}
-use Rattle.allocation.specs.Rule.{Redundant}
-use Rattle.allocation.proofs.Demands.{demandOn-mono, excess-le}
+use Rattle.allocation.specs.Rule.{tried, Redundant}
+use Rattle.numbers.proofs.LoadLaws.{demandOn-mono}
+use Rattle.allocation.proofs.Demands.{excess-le}
 use Rattle.allocation.specs.Walk.{Step, leaf, stepInto, boundAfter, storedAfter, entered, tryAll, visit, choices}
 use Rattle.allocation.proofs.Order.{Ordered, more, earlier-irrefl, earlier-trans, before-at, choices-ordered, choices-all, choices-le}
 use Rattle.allocation.proofs.Steps.{Leaves, Settled, leaves-settled, boundAfter-append, storedAfter-append}
-use Rattle.allocation.proofs.Sound.{Partial, Under, into, Entry, entry, entry-test, partial-snoc, bound-le, try-skip, try-enter, step-sound, visit-sound}
+use Rattle.allocation.proofs.Sound.{Partial, Under, into, Entered, entered-says, entered-if, partial-snoc, bound-le, try-skip, try-enter, step-sound, visit-sound}
 
 -- q comes before every completion of p that rejects just b
 abbrev pub Ahead : Problem → List ℕ → ℕ → List ℕ → Type 0
@@ -44,26 +45,26 @@ module _ (P : Problem) (p : List ℕ) (c : ℕ) (r : List ℕ) where
   pub snoc-mono : (d : ℕ) → load P d (p ++ (c ∷ [])) ≤ load P d (p ++ (c ∷ r))
   snoc-mono d = rw append-snoc at (demandOn-mono d (P .demands) (p ++ (c ∷ [])) r)
 
-module _ (P : Problem) (tried : List ℕ → ℕ → Bool) (redundant : Redundant P tried) where
+module _ (P : Problem) (redundant : Redundant P) where
   -- a choice that is not entered
-  skip-beaten : (p : List ℕ) (c b : ℕ) → entered P tried p c b ≡ false → ((d : ℕ) → d ≤ P .cores → Earlier d c → Beaten P p d b) → Beaten P p c b
-  skip-beaten p c b e h r f = go (tried p c) refl (decLe b (rejected P (p ++ (c ∷ r))))
+  skip-beaten : (p : List ℕ) (c b : ℕ) → entered P p c b ≡ false → ((d : ℕ) → d ≤ P .cores → Earlier d c → Beaten P p d b) → Beaten P p c b
+  skip-beaten p c b e h r f = go (tried P p c) refl (decLe b (rejected P (p ++ (c ∷ r))))
     where
-      go : (s : Bool) → tried p c ≡ s → Dec (b ≤ rejected P (p ++ (c ∷ r))) → b ≤ rejected P (p ++ (c ∷ r))
+      go : (s : Bool) → tried P p c ≡ s → Dec (b ≤ rejected P (p ++ (c ∷ r))) → b ≤ rejected P (p ++ (c ∷ r))
       go s q (yes l) = l
       go false q (no l) =
           let x = redundant p c r q f in
           let y = h (x .choice) (choice-core P p (x .choice) (x .rest) (x .feasible)) (x .earlier) (x .rest) (x .feasible) in
           omega (arith, x .no-more)
       go true q (no l) =
-          let n : Entry P tried p c b = record {
+          let n : Entered P p c b = record {
             permitted = choice-permitted P p c r f;
             tries = q;
             fits = λ i. le-trans (snoc-mono P p c r c) (f .fits c i (choice-core P p c r f));
             rejects = omega (arith, snoc-mono P p c r 0);
             over = omega (arith, excess-le P (p ++ (c ∷ r)) f);
           } in
-          absurd (true≢false (sym (entry-test P tried p c b n) ∙ e))
+          absurd (true≢false (sym (entered-if P p c b n) ∙ e))
 
   module _ (k : ℕ) (below : List ℕ → ℕ → List Step) where
     -- what is asked of the steps into a child
@@ -86,7 +87,7 @@ module _ (P : Problem) (tried : List ℕ → ℕ → Bool) (redundant : Redundan
         (q : List ℕ)
         (s : Tried p (c ∷ cs) b q)
       where
-        tried-skip : entered P tried p c b ≡ false → Tried p cs b q
+        tried-skip : entered P p c b ≡ false → Tried p cs b q
         tried-skip e = record {
           ahead = s .ahead;
           left = λ d l. go d (s .left d l);
@@ -160,21 +161,21 @@ module _ (P : Problem) (tried : List ℕ → ℕ → Bool) (redundant : Redundan
 
     -- once every choice has been tried
     try-covers : (p : List ℕ) → length p < length (P .demands) → (cs : List ℕ) → Ordered cs
-        → ((c b : ℕ) → List·Memᴰ c cs → entered P tried p c b ≡ true → Child p c b)
+        → ((c b : ℕ) → List·Memᴰ c cs → entered P p c b ≡ true → Child p c b)
         → (b : ℕ) (q : List ℕ) → Tried p cs b q
-        → Tried p [] (boundAfter P b (tryAll P tried k below p cs b)) (storedAfter q (tryAll P tried k below p cs b))
+        → Tried p [] (boundAfter P b (tryAll P k below p cs b)) (storedAfter q (tryAll P k below p cs b))
     unfolding tryAll boundAfter storedAfter
     try-covers p short [] o h b q s = s
     try-covers p short (c ∷ cs) (more later o) h b q s =
-        go (entered P tried p c b) refl (λ b′ q′ s′. try-covers p short cs o (λ d b″ i e. h d b″ (List·Memᴰ·tail i) e) b′ q′ s′)
+        go (entered P p c b) refl (λ b′ q′ s′. try-covers p short cs o (λ d b″ i e. h d b″ (List·Memᴰ·tail i) e) b′ q′ s′)
       where
-        go : (x : Bool) → entered P tried p c b ≡ x
-            → ((b′ : ℕ) (q′ : List ℕ) → Tried p cs b′ q′ → Tried p [] (boundAfter P b′ (tryAll P tried k below p cs b′)) (storedAfter q′ (tryAll P tried k below p cs b′)))
-            → Tried p [] (boundAfter P b (tryAll P tried k below p (c ∷ cs) b)) (storedAfter q (tryAll P tried k below p (c ∷ cs) b))
-        go false e rest = rw (try-skip P tried k below p c cs b e) (rest b q (tried-skip p short c cs later b q s e))
+        go : (x : Bool) → entered P p c b ≡ x
+            → ((b′ : ℕ) (q′ : List ℕ) → Tried p cs b′ q′ → Tried p [] (boundAfter P b′ (tryAll P k below p cs b′)) (storedAfter q′ (tryAll P k below p cs b′)))
+            → Tried p [] (boundAfter P b (tryAll P k below p (c ∷ cs) b)) (storedAfter q (tryAll P k below p (c ∷ cs) b))
+        go false e rest = rw (try-skip P k below p c cs b e) (rest b q (tried-skip p short c cs later b q s e))
         go true e rest =
             let t : List Step = into k below p c b in
-            rw (try-enter P tried k below p c cs b e)
+            rw (try-enter P k below p c cs b e)
             (rw (boundAfter-append P b t, storedAfter-append q t)
             (rest (boundAfter P b t) (storedAfter q t) (tried-enter p short c cs later b q s (h c b (List·Memᴰ·head refl) e))))
 
@@ -204,11 +205,11 @@ module _ (P : Problem) (tried : List ℕ → ℕ → Bool) (redundant : Redundan
   -- the step into a node with k tasks left, and the steps below it
   abbrev Deep : ℕ → Type 0
   Deep k = (p : List ℕ) (b : ℕ) (q : List ℕ) → length p + k ≡ length (P .demands) → Partial P p → Ahead P p b q
-      → Covers P p (boundAfter P b (stepInto k p ∷ visit P tried k p b)) (storedAfter q (stepInto k p ∷ visit P tried k p b))
+      → Covers P p (boundAfter P b (stepInto k p ∷ visit P k p b)) (storedAfter q (stepInto k p ∷ visit P k p b))
 
   -- the steps below a node with tasks left
   node-covers : (k : ℕ) → Deep k → (p : List ℕ) (b : ℕ) (q : List ℕ) → length p + suc k ≡ length (P .demands) → Partial P p → Ahead P p b q
-      → Covers P p (boundAfter P b (visit P tried (suc k) p b)) (storedAfter q (visit P tried (suc k) p b))
+      → Covers P p (boundAfter P b (visit P (suc k) p b)) (storedAfter q (visit P (suc k) p b))
   unfolding visit
   node-covers k deep p b q l h a =
       tried-covers k below p short _ _
@@ -216,7 +217,7 @@ module _ (P : Problem) (tried : List ℕ → ℕ → Bool) (redundant : Redundan
       (record { ahead = a; left = λ d m. inr (choices-all (P .cores) d m) }))
     where
       below : List ℕ → ℕ → List Step
-      below p′ b′ = visit P tried k p′ b′
+      below p′ b′ = visit P k p′ b′
 
       short : length p < length (P .demands)
       short = omega arith
@@ -224,16 +225,16 @@ module _ (P : Problem) (tried : List ℕ → ℕ → Bool) (redundant : Redundan
       longer : (c : ℕ) → length (p ++ (c ∷ [])) + k ≡ length (P .demands)
       longer c = omega (arith, length-append p (c ∷ []))
 
-      child : (c b′ : ℕ) → List·Memᴰ c (choices (P .cores)) → entered P tried p c b′ ≡ true → Child k below p c b′
+      child : (c b′ : ℕ) → List·Memᴰ c (choices (P .cores)) → entered P p c b′ ≡ true → Child k below p c b′
       child c b′ i e =
           let m = choices-le (P .cores) c i in
           record {
-            sound = step-sound P tried k p c b′ l m h e (λ h′. visit-sound P tried k (p ++ (c ∷ [])) b′ (longer c) h′);
-            covers = λ q′ a′. deep (p ++ (c ∷ [])) b′ q′ (longer c) (partial-snoc P tried p c b′ m (entry P tried p c b′ e) h) a′;
+            sound = step-sound P k p c b′ l m h e (λ h′. visit-sound P k (p ++ (c ∷ [])) b′ (longer c) h′);
+            covers = λ q′ a′. deep (p ++ (c ∷ [])) b′ q′ (longer c) (partial-snoc P p c b′ m (entered-says P p c b′ e) h) a′;
           }
 
   pub visit-covers : (k : ℕ) (p : List ℕ) (b : ℕ) (q : List ℕ) → length p + suc k ≡ length (P .demands) → Partial P p → Ahead P p b q
-      → Covers P p (boundAfter P b (visit P tried (suc k) p b)) (storedAfter q (visit P tried (suc k) p b))
+      → Covers P p (boundAfter P b (visit P (suc k) p b)) (storedAfter q (visit P (suc k) p b))
   unfolding boundAfter storedAfter stepInto visit
   visit-covers zero = node-covers zero (λ p b q l h a. leaf-covers p b q (omega arith))
   visit-covers (suc k) = node-covers (suc k) (λ p b q l h a. visit-covers k p b q l h a)

@@ -4,21 +4,23 @@ use mathlib.Core.Path.{_≡_, refl}
 use mathlib.Core.Bool.{Bool, true, false}
 use mathlib.Core.List.{List, [], _∷_, map}
 use Rattle.numbers.specs.Sums.{sumOver}
-use Rattle.allocation.specs.Placement.{demandOn}
-use Rattle.allocation.specs.Walk.{Answer, answer, every, trace, stored, visit, tryAll, entered, boundAfter, storedAfter, stepInto, choices, upFrom}
+use Rattle.numbers.specs.Loads.{demandOn}
+use Rattle.allocation.specs.Placement.{problemOf}
+use Rattle.allocation.specs.Rule.{tried}
+use Rattle.allocation.specs.Walk.{WalkAnswer, answer, trace, stored, visit, tryAll, entered, boundAfter, storedAfter, stepInto, choices, upFrom}
 
 record Example : Type 0 where
   capacity : ℕ
   cores : ℕ
   demands : List ℕ
   limit : ℕ
-  expected : Answer
+  expected : WalkAnswer
 
-example : ℕ → ℕ → List ℕ → ℕ → Answer → Example
+example : ℕ → ℕ → List ℕ → ℕ → WalkAnswer → Example
 example capacity cores demands limit expected =
     record { capacity = capacity; cores = cores; demands = demands; limit = limit; expected = expected }
 
-reply : List ℕ → ℕ → ℕ → Bool → Answer
+reply : List ℕ → ℕ → ℕ → Bool → WalkAnswer
 reply placement rejected steps spent = record { placement = placement; rejected = rejected; steps = steps; spent = spent }
 
 examples : List Example
@@ -38,12 +40,12 @@ examples =
     ∷ example 10 2 (5 ∷ 5 ∷ 5 ∷ 5 ∷ 1 ∷ []) 1000000 (reply (1 ∷ 1 ∷ 2 ∷ 2 ∷ 0 ∷ []) 1 5 false)
     ∷ []
 
-answered : Example → Answer
-answered x = answer (record { capacity = x .capacity; cores = x .cores; demands = x .demands; permits = λ k c. true }) every (x .limit)
+answered : Example → WalkAnswer
+answered x = answer (problemOf (x .capacity) (x .cores) (x .demands)) (x .limit)
 
-expected : Example → Answer
+expected : Example → WalkAnswer
 expected x = x .expected
 
 examples-hold : map answered examples ≡ map expected examples
-unfolding examples example reply answered expected answer trace stored visit tryAll entered boundAfter storedAfter stepInto choices upFrom demandOn sumOver
+unfolding examples example reply answered expected answer trace stored visit tryAll entered tried boundAfter storedAfter stepInto choices upFrom demandOn sumOver
 examples-hold = refl

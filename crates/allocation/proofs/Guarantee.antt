@@ -1,48 +1,67 @@
--- The answer for a table keeps what is promised of it, for every rule that skips redundant choices alone.
+-- The answer for a table keeps what is promised of it.
 use Prim.Native.Nat.{ℕ, _≤_, _<_}
 use native.Mathlib.Omega.{arith}
-use mathlib.Core.Path.{_≡_, sym}
-use mathlib.Core.Bool.{Bool, true≢false}
+use mathlib.Core.Path.{_≡_, refl, sym, _∙_, ap}
+use mathlib.Core.Bool.{true≢false}
 use mathlib.Core.List.{List}
-use lib.ListN.{length, getD}
+use mathlib.Core.Logic.{_⊎_, inl, inr}
+use lib.ListN.{length, getD, take, replicate}
 use borrow.Author.Tests.{ltb-true, ltb-false, lt-ltb}
 use Rattle.numbers.specs.Sorting.{Permutation}
+use Rattle.numbers.specs.Reorder.{scatter}
+use Rattle.numbers.proofs.ReorderLaws.{scatter-none}
 use Rattle.allocation.specs.Placement.{Problem, rejected}
-use Rattle.allocation.specs.Walk.{trace, stored, answer, every}
-use Rattle.allocation.specs.Rule.{Redundant}
-use Rattle.allocation.specs.TableOrder.{planned, scatter, BestPlan, tableAnswer}
+use Rattle.allocation.specs.Rule.{tried, Redundant}
+use Rattle.allocation.specs.Walk.{Step, LastLeaf, NoLeaf, trace, stored, answer}
+use Rattle.allocation.specs.TableOrder.{inPlanningOrder, BestPlan, tableAnswer}
 use Rattle.allocation.specs.Guarantee.{Guarantee}
-use Rattle.allocation.proofs.Optimal.{stored-feasible, stored-best, full-iff}
-use Rattle.allocation.proofs.Reorder.{feasible-scatter, rejected-scatter, best-scatter}
+use Rattle.allocation.proofs.Steps.{last-stored}
+use Rattle.allocation.proofs.Optimal.{none, stored-feasible, stored-best, full-iff}
+use Rattle.allocation.proofs.Reorder.{inPlanningOrder-long, feasible-scatter, rejected-scatter, best-scatter}
 
--- a walk that looks at every choice skips none
-pub every-redundant : (P : Problem) → Redundant P every
-every-redundant P p c r e f = absurd (true≢false e)
+-- the walk passes over no choice that is not redundant
+pub tried-redundant : (P : Problem) → Redundant P
+unfolding tried
+tried-redundant P p c r e f = absurd (true≢false e)
 
 module _ (T : Problem) (order : List ℕ) (perm : Permutation (length (T .demands)) order)
-    (positive : (k : ℕ) → k < length (T .demands) → 1 ≤ getD (T .demands) k 0)
-    (tried : List ℕ → ℕ → Bool) (redundant : Redundant (planned T order) tried) (limit : ℕ) where
+    (positive : (k : ℕ) → k < length (T .demands) → 1 ≤ getD (T .demands) k 0) (limit : ℕ) where
   abbrev P : Problem
-  P = planned T order
+  P = inPlanningOrder T order
 
   abbrev placed : List ℕ
-  placed = scatter order (stored P tried limit)
+  placed = scatter order (stored P limit)
 
-  best : length (trace P tried) ≤ limit → BestPlan T order placed
-  best h = best-scatter T order perm (stored P tried limit) (stored-best P tried redundant limit h)
+  -- the steps made
+  abbrev made : List Step
+  made = take limit (trace P)
 
-  rejects : rejected P (stored P tried limit) ≡ rejected T placed
-  rejects = sym (rejected-scatter T order perm (stored P tried limit) (stored-feasible P tried limit))
+  best : length (trace P) ≤ limit → BestPlan T order placed
+  best h = best-scatter T order perm (stored P limit) (stored-best P (tried-redundant P) limit h)
 
-  pub guaranteed : Guarantee T order tried limit (tableAnswer T order tried limit)
+  rejects : rejected P (stored P limit) ≡ rejected T placed
+  rejects = sym (rejected-scatter T order perm (stored P limit) (stored-feasible P limit))
+
+  stores : ((p : List ℕ) × LastLeaf made p × (placed ≡ scatter order p)) ⊎ (NoLeaf made × (placed ≡ replicate (length (T .demands)) 0))
+  unfolding stored
+  stores = go (last-stored (none P) made)
+    where
+      go : LastLeaf made (stored P limit) ⊎ (NoLeaf made × (stored P limit ≡ none P))
+          → ((p : List ℕ) × LastLeaf made p × (placed ≡ scatter order p)) ⊎ (NoLeaf made × (placed ≡ replicate (length (T .demands)) 0))
+      go (inl l) = inl (stored P limit, l, refl)
+      go (inr n) =
+          inr (n .0, ap (scatter order) (n .1 ∙ ap (λ (k : ℕ). replicate k 0) (inPlanningOrder-long T order perm)) ∙ scatter-none (length (T .demands)) order perm)
+
+  pub guaranteed : Guarantee T order limit (tableAnswer T order limit)
   unfolding tableAnswer answer
   guaranteed = record {
-    feasible = feasible-scatter T order perm (stored P tried limit) (stored-feasible P tried limit);
+    feasible = feasible-scatter T order perm (stored P limit) (stored-feasible P limit);
     rejects = rejects;
-    spent = (λ e. ltb-true limit (length (trace P tried)) e, λ l. lt-ltb limit (length (trace P tried)) l);
-    limited = λ e. omega (arith, ltb-true limit (length (trace P tried)) e);
-    complete = λ e. omega (arith, ltb-false limit (length (trace P tried)) e);
-    best = λ e. best (ltb-false limit (length (trace P tried)) e);
-    all = λ e. rw rejects (let b = best (ltb-false limit (length (trace P tried)) e) in full-iff T positive placed (b .feasible) (b .least));
-    short = λ e h q f. omega (arith, rejects, best (ltb-false limit (length (trace P tried)) e) .least q f);
+    spent = (λ e. ltb-true limit (length (trace P)) e, λ l. lt-ltb limit (length (trace P)) l);
+    limited = λ e. omega (arith, ltb-true limit (length (trace P)) e);
+    stores = stores;
+    complete = λ e. omega (arith, ltb-false limit (length (trace P)) e);
+    best = λ e. best (ltb-false limit (length (trace P)) e);
+    all = λ e. rw rejects (let b = best (ltb-false limit (length (trace P)) e) in full-iff T positive placed (b .feasible) (b .least));
+    short = λ e h q f. omega (arith, rejects, best (ltb-false limit (length (trace P)) e) .least q f);
   }

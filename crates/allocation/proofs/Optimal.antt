@@ -3,14 +3,14 @@ use Prim.Native.Nat.{ℕ, zero, suc, _+_, _≤_, _<_, zero-le}
 use native.Mathlib.Nat.{le-refl, zero-add}
 use native.Mathlib.Omega.{arith}
 use mathlib.Core.Path.{_≡_, refl, sym, _∙_}
-use mathlib.Core.Bool.{Bool}
 use mathlib.Core.List.{List, [], _∷_}
 use mathlib.Core.Logic.{inl, inr, _↔_}
 use lib.ListN.{length, getD, replicate, take, length-replicate, getD-replicate}
 use lib.Seq.{take-all}
 use Rattle.allocation.specs.Placement.{Problem, Feasible, Full, rejected, total}
 use Rattle.allocation.specs.Best.{IsBest}
-use Rattle.allocation.proofs.Demands.{demandOn-le-sum, none-loads, full-rejects, rejects-full}
+use Rattle.numbers.proofs.LoadLaws.{demandOn-le-sum, none-loads}
+use Rattle.allocation.proofs.Demands.{full-rejects, rejects-full}
 use Rattle.allocation.specs.Walk.{Step, trace, visit, stored, boundAfter, storedAfter}
 use Rattle.allocation.proofs.Steps.{Settled, leaves-map, leaves-take, leaves-stored, leaves-settled}
 use Rattle.allocation.proofs.Sound.{Partial, Under, visit-sound}
@@ -36,60 +36,59 @@ module _ (P : Problem) where
   pub start : Partial P []
   start = record { core = λ k l. absurd (omega arith); permitted = λ k l. absurd (omega arith); fits = λ c i j. rw (none-loads c i (P .demands) 0) zero-le }
 
-  module _ (tried : List ℕ → ℕ → Bool) where
-    -- whatever the limit, what is stored is feasible
-    pub stored-feasible : (limit : ℕ) → Feasible P (stored P tried limit)
+  -- whatever the limit, what is stored is feasible
+  pub stored-feasible : (limit : ℕ) → Feasible P (stored P limit)
+  unfolding stored trace
+  stored-feasible limit =
+      let n = length (P .demands) in
+      let t = trace P in
+      let b = total P + 1 in
+      leaves-stored (Feasible P) none (take limit t) none-feasible
+      (leaves-take (Feasible P) limit t
+      (leaves-map (Under P [] b) (Feasible P) (λ q u. u .feasible) t (visit-sound P n [] b (zero-add n) start)))
+
+  module _ (redundant : Redundant P) where
+    -- the complete walk, where the number of tasks is k
+    walked : (k : ℕ) → length (P .demands) ≡ k → IsBest P (storedAfter none (visit P k [] (total P + 1)))
+    unfolding visit storedAfter
+    walked zero l = record {
+      feasible = none-feasible;
+      least = λ q f. rw (same q (f .whole)) (le-refl (rejected P q));
+      first = λ q f e. inl (same q (f .whole));
+    }
+      where
+        empty : (p q : List ℕ) → length p ≡ 0 → length q ≡ 0 → p ≡ q
+        empty [] [] e f = refl
+        empty [] (x ∷ q) e f = absurd (omega arith)
+        empty (x ∷ p) q e f = absurd (omega arith)
+
+        same : (q : List ℕ) → length q ≡ length (P .demands) → none ≡ q
+        same q e = empty none q (none-feasible .whole ∙ l) (e ∙ l)
+    walked (suc k) l = go (leaves-settled (Under P [] b) P b none t (visit-sound P (suc k) [] b (omega arith) start))
+      where
+        b : ℕ
+        b = total P + 1
+
+        t : List Step
+        t = visit P (suc k) [] b
+
+        small : (q : List ℕ) → rejected P q ≤ total P
+        small q = demandOn-le-sum 0 (P .demands) q
+
+        covers : Covers P [] (boundAfter P b t) (storedAfter none t)
+        covers = visit-covers P redundant k [] b none (omega arith) start (λ r f e. absurd (omega (arith, small r)))
+
+        go : Settled (Under P [] b) P b none t → IsBest P (storedAfter none t)
+        go (inl e) = absurd (omega (arith, covers .least none none-feasible, small none))
+        go (inr u) = record {
+          feasible = u .0 .feasible;
+          least = λ q f. omega (arith, covers .least q f, u .1);
+          first = λ q f e. covers .first q f (e ∙ sym (u .1));
+        }
+
+    pub stored-best : (limit : ℕ) → length (trace P) ≤ limit → IsBest P (stored P limit)
     unfolding stored trace
-    stored-feasible limit =
-        let n = length (P .demands) in
-        let t = trace P tried in
-        let b = total P + 1 in
-        leaves-stored (Feasible P) none (take limit t) none-feasible
-        (leaves-take (Feasible P) limit t
-        (leaves-map (Under P [] b) (Feasible P) (λ q u. u .feasible) t (visit-sound P tried n [] b (zero-add n) start)))
-
-    module _ (redundant : Redundant P tried) where
-      -- the complete walk, where the number of tasks is k
-      walked : (k : ℕ) → length (P .demands) ≡ k → IsBest P (storedAfter none (visit P tried k [] (total P + 1)))
-      unfolding visit storedAfter
-      walked zero l = record {
-        feasible = none-feasible;
-        least = λ q f. rw (same q (f .whole)) (le-refl (rejected P q));
-        first = λ q f e. inl (same q (f .whole));
-      }
-        where
-          empty : (p q : List ℕ) → length p ≡ 0 → length q ≡ 0 → p ≡ q
-          empty [] [] e f = refl
-          empty [] (x ∷ q) e f = absurd (omega arith)
-          empty (x ∷ p) q e f = absurd (omega arith)
-
-          same : (q : List ℕ) → length q ≡ length (P .demands) → none ≡ q
-          same q e = empty none q (none-feasible .whole ∙ l) (e ∙ l)
-      walked (suc k) l = go (leaves-settled (Under P [] b) P b none t (visit-sound P tried (suc k) [] b (omega arith) start))
-        where
-          b : ℕ
-          b = total P + 1
-
-          t : List Step
-          t = visit P tried (suc k) [] b
-
-          small : (q : List ℕ) → rejected P q ≤ total P
-          small q = demandOn-le-sum 0 (P .demands) q
-
-          covers : Covers P [] (boundAfter P b t) (storedAfter none t)
-          covers = visit-covers P tried redundant k [] b none (omega arith) start (λ r f e. absurd (omega (arith, small r)))
-
-          go : Settled (Under P [] b) P b none t → IsBest P (storedAfter none t)
-          go (inl e) = absurd (omega (arith, covers .least none none-feasible, small none))
-          go (inr u) = record {
-            feasible = u .0 .feasible;
-            least = λ q f. omega (arith, covers .least q f, u .1);
-            first = λ q f e. covers .first q f (e ∙ sym (u .1));
-          }
-
-      pub stored-best : (limit : ℕ) → length (trace P tried) ≤ limit → IsBest P (stored P tried limit)
-      unfolding stored trace
-      stored-best limit h = rw (take-all limit (trace P tried) h) (walked (length (P .demands)) refl)
+    stored-best limit h = rw (take-all limit (trace P) h) (walked (length (P .demands)) refl)
 
 -- With the least rejected demand, nothing is rejected exactly if a full placement exists.
 pub full-iff : (P : Problem) → ((k : ℕ) → k < length (P .demands) → 1 ≤ getD (P .demands) k 0)
@@ -99,11 +98,3 @@ full-iff P positive p f least = (
   λ e. (p, f, rejects-full (P .demands) p (omega (arith, f .whole)) positive e),
   λ x. omega (arith, least (x .0) (x .1), full-rejects (P .demands) (x .0) (x .2)),
 )
-
--- of the complete walk: it ends with nothing rejected exactly if a full placement exists
-pub stored-full-iff : (P : Problem) → ((k : ℕ) → k < length (P .demands) → 1 ≤ getD (P .demands) k 0)
-    → (tried : List ℕ → ℕ → Bool) → Redundant P tried → (limit : ℕ) → length (trace P tried) ≤ limit
-    → (rejected P (stored P tried limit) ≡ 0) ↔ ((q : List ℕ) × Feasible P q × Full q)
-stored-full-iff P positive tried redundant limit h =
-    let b = stored-best P tried redundant limit h in
-    full-iff P positive (stored P tried limit) (b .feasible) (b .least)

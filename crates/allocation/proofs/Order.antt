@@ -8,7 +8,7 @@ use mathlib.Core.List.{head-eq-of-cons-eq, tail-eq-of-cons-eq, List·Memᴰ·not
 use mathlib.Core.List.{List, [], _∷_, _++_, List·Memᴰ, List·Memᴰ·append-cases, List·Memᴰ·eq-of-singleton, Memᴰ·append-left, Memᴰ·append-right}
 use mathlib.Core.Logic.{_⊎_, inl, inr}
 use Rattle.allocation.specs.Placement.{Problem, rejected}
-use Rattle.allocation.specs.Best.{Earlier, core-core, core-none, Before, here, there, BestBy, IsBest}
+use Rattle.allocation.specs.Best.{Earlier, core-core, core-none, Before, here, there, BestBy}
 use Rattle.allocation.specs.TableOrder.{BestPlan}
 use Rattle.allocation.specs.Walk.{upFrom, choices}
 
@@ -58,9 +58,6 @@ best-unique {R} asym P p q a b = go (a .first q (b .feasible) (sym same)) (b .fi
     go (inl e) k = e
     go (inr h) (inl e) = sym e
     go (inr h) (inr k) = absurd (asym p q h k)
-
-pub isBest-unique : (P : Problem) (p q : List ℕ) → IsBest P p → IsBest P q → p ≡ q
-isBest-unique P p q = best-unique (λ r s. before-asym) P p q
 
 pub bestPlan-unique : (T : Problem) (order p q : List ℕ) → BestPlan T order p → BestPlan T order q → p ≡ q
 bestPlan-unique T order p q = best-unique (λ r s. before-asym) T p q

@@ -10,29 +10,29 @@ use lib.ListN.{length, getD, take, set, replicate, length-append}
 use lib.Seq.{append-snoc, take-all, take-at}
 use borrow.Author.Tests.{lt-ltb, le-ltb}
 use Rattle.allocation.specs.Placement.{Problem, total, rejected}
-use Rattle.allocation.specs.Walk.{Step, inner, leaf, boundAfter, storedAfter, entered, choices, triedBy, trace, stored, answer, Answer}
+use Rattle.allocation.specs.Walk.{Step, inner, leaf, boundAfter, storedAfter, entered, choices, triedBy, trace, stored, answer, WalkAnswer}
 use Rattle.allocation.proofs.Steps.{boundAfter-append, storedAfter-append}
 use Rattle.allocation.proofs.Remaining.{remaining, remaining-start, remaining-skip, remaining-leaf, remaining-descend, remaining-back, remaining-end, remaining-take}
 
 -- `made` are the steps so far: they account for the bound, the stored placement and the step count.
-pub record Progress (P : Problem) (tried : List ℕ → ℕ → Bool) (path : List ℕ) (d j b : ℕ) (best : List ℕ) (steps : ℕ) : Type 0 where
+pub record Progress (P : Problem) (path : List ℕ) (d j b : ℕ) (best : List ℕ) (steps : ℕ) : Type 0 where
   pub made : List Step
-  pub whole : trace P tried ≡ made ++ remaining P tried path d j b
+  pub whole : trace P ≡ made ++ remaining P path d j b
   pub counts : length made ≡ steps
   pub bounds : boundAfter P (total P + 1) made ≡ b
   pub stores : storedAfter (replicate (length (P .demands)) 0) made ≡ best
 
-module _ (P : Problem) (tried : List ℕ → ℕ → Bool) where
-  abbrev answered : List ℕ → ℕ → Bool → Answer
+module _ (P : Problem) where
+  abbrev answered : List ℕ → ℕ → Bool → WalkAnswer
   answered best steps spent = record { placement = best; rejected = rejected P best; steps = steps; spent = spent }
 
-  pub progress-start : (path : List ℕ) → 0 < length (P .demands) → Progress P tried path 0 0 (total P + 1) (replicate (length (P .demands)) 0) 0
+  pub progress-start : (path : List ℕ) → 0 < length (P .demands) → Progress P path 0 0 (total P + 1) (replicate (length (P .demands)) 0) 0
   unfolding boundAfter storedAfter
-  progress-start path h = record { made = []; whole = sym (remaining-start P tried path h); counts = refl; bounds = refl; stores = refl }
+  progress-start path h = record { made = []; whole = sym (remaining-start P path h); counts = refl; bounds = refl; stores = refl }
 
-  module _ {path : List ℕ} {d j b : ℕ} {best : List ℕ} {steps : ℕ} (r : Progress P tried path d j b best steps) where
+  module _ {path : List ℕ} {d j b : ℕ} {best : List ℕ} {steps : ℕ} (r : Progress P path d j b best steps) where
     -- the state is another, and the same steps remain
-    same : {path′ : List ℕ} {d′ j′ : ℕ} → remaining P tried path d j b ≡ remaining P tried path′ d′ j′ b → Progress P tried path′ d′ j′ b best steps
+    same : {path′ : List ℕ} {d′ j′ : ℕ} → remaining P path d j b ≡ remaining P path′ d′ j′ b → Progress P path′ d′ j′ b best steps
     same e = record {
       made = r .made;
       whole = r .whole ∙ ap (λ (t : List Step). r .made ++ t) e;
@@ -42,36 +42,36 @@ module _ (P : Problem) (tried : List ℕ → ℕ → Bool) where
     }
 
     -- only the choices made matter
-    pub progress-take : (path′ : List ℕ) → take d path ≡ take d path′ → Progress P tried path′ d j b best steps
-    progress-take path′ e = same (remaining-take P tried path path′ d j b e)
+    pub progress-take : (path′ : List ℕ) → take d path ≡ take d path′ → Progress P path′ d j b best steps
+    progress-take path′ e = same (remaining-take P path path′ d j b e)
 
     -- the next step is s, and u remains after it
-    next : (s : Step) (u : List Step) → remaining P tried path d j b ≡ s ∷ u → trace P tried ≡ (r .made ++ (s ∷ [])) ++ u
+    next : (s : Step) (u : List Step) → remaining P path d j b ≡ s ∷ u → trace P ≡ (r .made ++ (s ∷ [])) ++ u
     next s u e = r .whole ∙ ap (λ (t : List Step). r .made ++ t) e ∙ sym (append-snoc (r .made) s u)
 
     -- the limit is reached, and the walk would go on
-    pub progress-spent : (limit : ℕ) → steps ≡ limit → (s : Step) (u : List Step) → remaining P tried path d j b ≡ s ∷ u
-        → answer P tried limit ≡ answered best limit true
+    pub progress-spent : (limit : ℕ) → steps ≡ limit → (s : Step) (u : List Step) → remaining P path d j b ≡ s ∷ u
+        → answer P limit ≡ answered best limit true
     unfolding answer stored
     progress-spent limit e s u q =
-        let w : trace P tried ≡ r .made ++ (s ∷ u) = r .whole ∙ ap (λ (l : List Step). r .made ++ l) q in
-        let l : limit < length (trace P tried) = omega (arith, ap length w, length-append (r .made) (s ∷ u), r .counts) in
-        let p : stored P tried limit ≡ best =
+        let w : trace P ≡ r .made ++ (s ∷ u) = r .whole ∙ ap (λ (l : List Step). r .made ++ l) q in
+        let l : limit < length (trace P) = omega (arith, ap length w, length-append (r .made) (s ∷ u), r .counts) in
+        let p : stored P limit ≡ best =
         ap (λ (l : List Step). storedAfter (replicate (length (P .demands)) 0) l) (ap (take limit) w ∙ take-at (r .made) (s ∷ u) limit (r .counts ∙ e)) ∙ r .stores in
-        let v : ltb limit (length (trace P tried)) ≡ true = lt-ltb limit (length (trace P tried)) l in
-        let n : min limit (length (trace P tried)) ≡ limit = omega arith in
+        let v : ltb limit (length (trace P)) ≡ true = lt-ltb limit (length (trace P)) l in
+        let n : min limit (length (trace P)) ≡ limit = omega arith in
         λ i. record { placement = p i; rejected = rejected P (p i); steps = n i; spent = v i }
 
     -- nothing remains
-    pub progress-end : (limit : ℕ) → steps ≤ limit → remaining P tried path d j b ≡ [] → answer P tried limit ≡ answered best steps false
+    pub progress-end : (limit : ℕ) → steps ≤ limit → remaining P path d j b ≡ [] → answer P limit ≡ answered best steps false
     unfolding answer stored
     progress-end limit e q =
-        let w : trace P tried ≡ r .made = r .whole ∙ ap (λ (l : List Step). r .made ++ l) q ∙ append-nil (r .made) in
-        let k : length (trace P tried) ≡ steps = ap length w ∙ r .counts in
-        let p : stored P tried limit ≡ best =
-        ap (λ (l : List Step). storedAfter (replicate (length (P .demands)) 0) l) (take-all limit (trace P tried) (omega arith) ∙ w) ∙ r .stores in
-        let v : ltb limit (length (trace P tried)) ≡ false = le-ltb limit (length (trace P tried)) (omega arith) in
-        let n : min limit (length (trace P tried)) ≡ steps = omega arith in
+        let w : trace P ≡ r .made = r .whole ∙ ap (λ (l : List Step). r .made ++ l) q ∙ append-nil (r .made) in
+        let k : length (trace P) ≡ steps = ap length w ∙ r .counts in
+        let p : stored P limit ≡ best =
+        ap (λ (l : List Step). storedAfter (replicate (length (P .demands)) 0) l) (take-all limit (trace P) (omega arith) ∙ w) ∙ r .stores in
+        let v : ltb limit (length (trace P)) ≡ false = le-ltb limit (length (trace P)) (omega arith) in
+        let n : min limit (length (trace P)) ≡ steps = omega arith in
         λ i. record { placement = p i; rejected = rejected P (p i); steps = n i; spent = v i }
 
     -- choice number j of task d
@@ -80,49 +80,49 @@ module _ (P : Problem) (tried : List ℕ → ℕ → Bool) where
       c = getD (choices (P .cores)) j 0
 
       -- it is not entered
-      pub progress-skip : entered P tried (take d path) c b ≡ false → Progress P tried path d (suc j) b best steps
-      progress-skip e = same (remaining-skip P tried path d j b within e)
+      pub progress-skip : entered P (take d path) c b ≡ false → Progress P path d (suc j) b best steps
+      progress-skip e = same (remaining-skip P path d j b within e)
 
       -- it is entered, and d is the last task
-      pub progress-leaf : suc d ≡ length (P .demands) → entered P tried (take d path) c b ≡ true
-          → Progress P tried path d (suc j) (rejected P (take d path ++ (c ∷ []))) (take d path ++ (c ∷ [])) (suc steps)
+      pub progress-leaf : suc d ≡ length (P .demands) → entered P (take d path) c b ≡ true
+          → Progress P path d (suc j) (rejected P (take d path ++ (c ∷ []))) (take d path ++ (c ∷ [])) (suc steps)
       unfolding boundAfter storedAfter
       progress-leaf l e =
           let s = leaf (take d path ++ (c ∷ [])) in
           record {
             made = r .made ++ (s ∷ []);
-            whole = next s _ (remaining-leaf P tried path d j b within l e);
+            whole = next s _ (remaining-leaf P path d j b within l e);
             counts = omega (arith, length-append (r .made) (s ∷ []), r .counts);
             bounds = boundAfter-append P (total P + 1) (r .made) (s ∷ []);
             stores = storedAfter-append _ (r .made) (s ∷ []);
           }
 
       -- it is entered, and more tasks follow
-      pub progress-descend : d < length path → suc d < length (P .demands) → entered P tried (take d path) c b ≡ true
-          → Progress P tried (set path d c) (suc d) 0 b best (suc steps)
+      pub progress-descend : d < length path → suc d < length (P .demands) → entered P (take d path) c b ≡ true
+          → Progress P (set path d c) (suc d) 0 b best (suc steps)
       unfolding boundAfter storedAfter
       progress-descend i l e = record {
         made = r .made ++ (inner ∷ []);
-        whole = next inner _ (remaining-descend P tried path d j b within i l e);
+        whole = next inner _ (remaining-descend P path d j b within i l e);
         counts = omega (arith, length-append (r .made) (inner ∷ []), r .counts);
         bounds = boundAfter-append P (total P + 1) (r .made) (inner ∷ []) ∙ r .bounds;
         stores = storedAfter-append _ (r .made) (inner ∷ []) ∙ r .stores;
       }
 
       -- it would be entered, and the limit is reached
-      pub progress-stop : (limit : ℕ) → d < length path → d < length (P .demands) → entered P tried (take d path) c b ≡ true → steps ≡ limit
-          → answer P tried limit ≡ answered best limit true
+      pub progress-stop : (limit : ℕ) → d < length path → d < length (P .demands) → entered P (take d path) c b ≡ true → steps ≡ limit
+          → answer P limit ≡ answered best limit true
       progress-stop limit i l e f = go (ℕ-discrete (suc d) (length (P .demands)))
         where
-          go : Dec (suc d ≡ length (P .demands)) → answer P tried limit ≡ answered best limit true
-          go (yes q) = progress-spent limit f _ _ (remaining-leaf P tried path d j b within q e)
-          go (no q) = progress-spent limit f _ _ (remaining-descend P tried path d j b within i (omega arith) e)
+          go : Dec (suc d ≡ length (P .demands)) → answer P limit ≡ answered best limit true
+          go (yes q) = progress-spent limit f _ _ (remaining-leaf P path d j b within q e)
+          go (no q) = progress-spent limit f _ _ (remaining-descend P path d j b within i (omega arith) e)
 
     -- all choices of the first task have been tried
-    pub progress-done : (limit : ℕ) → steps ≤ limit → d ≡ 0 → P .cores < j → answer P tried limit ≡ answered best steps false
-    progress-done limit e z h = progress-end limit e (rw z (remaining-end P tried path j b h))
+    pub progress-done : (limit : ℕ) → steps ≤ limit → d ≡ 0 → P .cores < j → answer P limit ≡ answered best steps false
+    progress-done limit e z h = progress-end limit e (rw z (remaining-end P path j b h))
 
   -- all choices of a later task have been tried
-  pub progress-back : {path : List ℕ} {d j b : ℕ} {best : List ℕ} {steps : ℕ} → Progress P tried path (suc d) j b best steps → P .cores < j
-      → Progress P tried path d (triedBy (P .cores) (getD path d 0)) b best steps
-  progress-back {path} {d} {j} {b} r h = same r (remaining-back P tried path d j b h)
+  pub progress-back : {path : List ℕ} {d j b : ℕ} {best : List ℕ} {steps : ℕ} → Progress P path (suc d) j b best steps → P .cores < j
+      → Progress P path d (triedBy (P .cores) (getD path d 0)) b best steps
+  progress-back {path} {d} {j} {b} r h = same r (remaining-back P path d j b h)

@@ -5,7 +5,7 @@ use native.Mathlib.Nat.{le-refl}
 use native.Mathlib.Decide.{decLt}
 use native.Mathlib.Omega.{arith}
 use mathlib.Core.Path.{_≡_, refl, sym, ap, _∙_}
-use mathlib.Core.Bool.{Bool, true, false, cond}
+use mathlib.Core.Bool.{true, false, cond}
 use mathlib.Core.List.{List, [], _∷_, _++_, append-nil, append-assoc}
 use lib.Dec.{eqb}
 use lib.ListN.{length, getD, take, drop, set, length-append, drop-of-length-le, List·getD-append}
@@ -65,7 +65,7 @@ tried-by-le m (suc c) h = rw (ne-eqb (suc c) 0 (λ e. omega arith)) (omega arith
 
 -- ---- the steps that are left
 
-module _ (P : Problem) (tried : List ℕ → ℕ → Bool) where
+module _ (P : Problem) where
   abbrev m : ℕ
   m = P .cores
 
@@ -73,7 +73,7 @@ module _ (P : Problem) (tried : List ℕ → ℕ → Bool) where
   level : List ℕ → ℕ → ℕ → ℕ → List Step
   level path d j b =
       let k = length (P .demands) - suc d in
-      tryAll P tried k (λ p′ b′. visit P tried k p′ b′) (take d path) (drop j (choices m)) b
+      tryAll P k (λ p′ b′. visit P k p′ b′) (take d path) (drop j (choices m)) b
 
   -- of the tasks before d, from their next choices on
   backlog : List ℕ → ℕ → ℕ → List Step
@@ -104,11 +104,11 @@ module _ (P : Problem) (tried : List ℕ → ℕ → Bool) where
   remaining-take a a′ d j b e = rw (level-take a a′ d j b e, backlog-take a a′ d (boundAfter P b (level a′ d j b)) e)
 
   -- before the first step
-  pub remaining-start : (path : List ℕ) → 0 < length (P .demands) → remaining path 0 0 (total P + 1) ≡ trace P tried
+  pub remaining-start : (path : List ℕ) → 0 < length (P .demands) → remaining path 0 0 (total P + 1) ≡ trace P
   unfolding remaining backlog level trace visit
   remaining-start path h = append-nil (level path 0 0 (total P + 1)) ∙ go (length (P .demands)) h
     where
-      go : (n : ℕ) → 0 < n → tryAll P tried (n - 1) (λ p′ b′. visit P tried (n - 1) p′ b′) [] (choices m) (total P + 1) ≡ visit P tried n [] (total P + 1)
+      go : (n : ℕ) → 0 < n → tryAll P (n - 1) (λ p′ b′. visit P (n - 1) p′ b′) [] (choices m) (total P + 1) ≡ visit P n [] (total P + 1)
       go zero l = absurd (omega arith)
       go (suc n) l = let e : suc n - 1 ≡ n = omega arith in rw e
 
@@ -133,34 +133,34 @@ module _ (P : Problem) (tried : List ℕ → ℕ → Bool) where
     next : drop j (choices m) ≡ c ∷ drop (suc j) (choices m)
     next = drop-cons (choices m) j 0 (omega (arith, length-choices m))
 
-    level-skip : entered P tried (take d path) c b ≡ false → level path d j b ≡ level path d (suc j) b
+    level-skip : entered P (take d path) c b ≡ false → level path d j b ≡ level path d (suc j) b
     unfolding level
-    level-skip e = rw (next, try-skip P tried _ _ (take d path) c (drop (suc j) (choices m)) b e)
+    level-skip e = rw (next, try-skip P _ _ (take d path) c (drop (suc j) (choices m)) b e)
 
     -- it is not entered
-    pub remaining-skip : entered P tried (take d path) c b ≡ false → remaining path d j b ≡ remaining path d (suc j) b
+    pub remaining-skip : entered P (take d path) c b ≡ false → remaining path d j b ≡ remaining path d (suc j) b
     unfolding remaining
     remaining-skip e = rw (level-skip e)
 
     -- it is entered, and d is the last task
-    pub remaining-leaf : suc d ≡ length (P .demands) → entered P tried (take d path) c b ≡ true
+    pub remaining-leaf : suc d ≡ length (P .demands) → entered P (take d path) c b ≡ true
         → remaining path d j b ≡ leaf (take d path ++ (c ∷ [])) ∷ remaining path d (suc j) (rejected P (take d path ++ (c ∷ [])))
     unfolding remaining level stepInto visit boundAfter
     remaining-leaf l e =
         let z : length (P .demands) - suc d ≡ 0 = omega arith in
-        rw (z, next, try-enter P tried 0 (λ p′ b′. visit P tried 0 p′ b′) (take d path) c (drop (suc j) (choices m)) b e)
+        rw (z, next, try-enter P 0 (λ p′ b′. visit P 0 p′ b′) (take d path) c (drop (suc j) (choices m)) b e)
 
-    level-child : (b′ : ℕ) → d < length path → level (set path d c) (suc d) 0 b′ ≡ visit P tried (suc (length (P .demands) - suc (suc d))) (take d path ++ (c ∷ [])) b′
+    level-child : (b′ : ℕ) → d < length path → level (set path d c) (suc d) 0 b′ ≡ visit P (suc (length (P .demands) - suc (suc d))) (take d path ++ (c ∷ [])) b′
     unfolding level visit
     level-child b′ i = rw (take-suc-set path d c i)
 
-    level-enter : suc d < length (P .demands) → entered P tried (take d path) c b ≡ true
-        → (v : List Step) → v ≡ visit P tried (suc (length (P .demands) - suc (suc d))) (take d path ++ (c ∷ [])) b
+    level-enter : suc d < length (P .demands) → entered P (take d path) c b ≡ true
+        → (v : List Step) → v ≡ visit P (suc (length (P .demands) - suc (suc d))) (take d path ++ (c ∷ [])) b
         → level path d j b ≡ inner ∷ (v ++ level path d (suc j) (boundAfter P b v))
     unfolding level stepInto boundAfter
     level-enter l e v q =
         let z : length (P .demands) - suc d ≡ suc (length (P .demands) - suc (suc d)) = omega arith in
-        rw (q, z, next, try-enter P tried _ _ (take d path) c (drop (suc j) (choices m)) b e)
+        rw (q, z, next, try-enter P _ _ (take d path) c (drop (suc j) (choices m)) b e)
 
     -- what the child's backlog holds
     backlog-child : (b′ : ℕ) → d < length path → backlog (set path d c) (suc d) b′ ≡ level path d (suc j) b′ ++ backlog path d (boundAfter P b′ (level path d (suc j) b′))
@@ -171,7 +171,7 @@ module _ (P : Problem) (tried : List ℕ → ℕ → Bool) where
         (ap (λ (l : List Step). level path d (suc j) b′ ++ l) (backlog-take (set path d c) path d (boundAfter P b′ (level path d (suc j) b′)) same))
 
     -- it is entered, and more tasks follow
-    pub remaining-descend : d < length path → suc d < length (P .demands) → entered P tried (take d path) c b ≡ true
+    pub remaining-descend : d < length path → suc d < length (P .demands) → entered P (take d path) c b ≡ true
         → remaining path d j b ≡ inner ∷ remaining (set path d c) (suc d) 0 b
     unfolding remaining boundAfter
     remaining-descend i l e =

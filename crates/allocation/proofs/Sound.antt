@@ -3,15 +3,17 @@ use Prim.Native.Nat.{ℕ, zero, suc, _+_, _≤_, _<_, max}
 use native.Mathlib.Decide.{decLt, ℕ-discrete}
 use native.Mathlib.Omega.{arith}
 use mathlib.Core.Path.{_≡_, refl, sym, _∙_}
-use mathlib.Core.Bool.{Bool, true, false, _&&_, _||_, true≢false, false≢true}
+use mathlib.Core.Bool.{Bool, true, false, _&&_, _||_}
 use mathlib.Core.List.{List, [], _∷_, _++_, append-nil, List·Memᴰ, List·Memᴰ·head, List·Memᴰ·tail}
-use mathlib.Core.Logic.{inl, inr, _≢_}
+use mathlib.Core.Logic.{inl, inr}
 use lib.Dec.{eqb, leb, ltb}
 use lib.ListN.{length, getD, length-append, List·getD-append}
 use lib.Seq.{append-snoc, getD-append-seam}
 use borrow.Author.Tests.{ltb-true, leb-true, lt-ltb, le-leb, ne-eqb}
 use Rattle.allocation.specs.Placement.{Problem, Feasible, rejected, load, excess}
-use Rattle.allocation.proofs.Demands.{demandOn-other}
+use Rattle.numbers.proofs.BoolLaws.{and-left, and-right, and-intro}
+use Rattle.numbers.proofs.LoadLaws.{demandOn-other}
+use Rattle.allocation.specs.Rule.{tried}
 use Rattle.allocation.specs.Walk.{Step, stepInto, boundAfter, entered, tryAll, visit, choices}
 use Rattle.allocation.proofs.Order.{choices-le}
 use Rattle.allocation.proofs.Steps.{Leaves, Settled, leaves-append, leaves-map, leaves-settled}
@@ -30,35 +32,12 @@ pub record Under (P : Problem) (p : List ℕ) (b : ℕ) (q : List ℕ) : Type 0 
   pub below : rejected P q < b
 
 -- what the test of a choice says
-pub record Entry (P : Problem) (tried : List ℕ → ℕ → Bool) (p : List ℕ) (c b : ℕ) : Type 0 where
+pub record Entered (P : Problem) (p : List ℕ) (c b : ℕ) : Type 0 where
   pub permitted : 1 ≤ c → P .permits (length p) c ≡ true
-  pub tries : tried p c ≡ true
+  pub tries : tried P p c ≡ true
   pub fits : 1 ≤ c → load P c (p ++ (c ∷ [])) ≤ P .capacity
   pub rejects : rejected P (p ++ (c ∷ [])) < b
   pub over : excess P < b
-
-pub and-left : (s t : Bool) → (s && t) ≡ true → s ≡ true
-and-left true t e = refl
-and-left false t e = e
-
-pub and-right : (s t : Bool) → (s && t) ≡ true → t ≡ true
-and-right true t e = e
-and-right false t e = absurd (false≢true e)
-
-pub and-both : (s t : Bool) → s ≡ true → t ≡ true → (s && t) ≡ true
-and-both true t e f = f
-and-both false t e f = e
-
-and-three : (s t u : Bool) → (s && t && u) ≡ true → (s ≡ true) × (t ≡ true) × (u ≡ true)
-and-three s t u e = let f = and-left (s && t) u e in (and-left s t f, and-right s t f, and-right (s && t) u e)
-
-pub or-right : (s t : Bool) → s ≡ false → (s || t) ≡ true → t ≡ true
-or-right true t e f = absurd (true≢false e)
-or-right false t e f = f
-
-pub or-intro : (s t : Bool) → t ≡ true → (s || t) ≡ true
-or-intro true t e = refl
-or-intro false t e = e
 
 -- a fact of each entry holds with one entry more
 pub snoc-each : (Q : ℕ → ℕ → Type 0) (p : List ℕ) (c : ℕ) → ((k : ℕ) → k < length p → Q k (getD p k 0)) → Q (length p) c
@@ -88,37 +67,36 @@ bound-le P p b t h = go (leaves-settled (Under P p b) P b [] t h)
 abbrev pub into : ℕ → (List ℕ → ℕ → List Step) → List ℕ → ℕ → ℕ → List Step
 into k below p c b = stepInto k (p ++ (c ∷ [])) ∷ below (p ++ (c ∷ [])) b
 
-module _ (P : Problem) (tried : List ℕ → ℕ → Bool) where
-  pub entry : (p : List ℕ) (c b : ℕ) → entered P tried p c b ≡ true → Entry P tried p c b
+module _ (P : Problem) where
+  pub entered-says : (p : List ℕ) (c b : ℕ) → entered P p c b ≡ true → Entered P p c b
   unfolding entered
-  entry p c b e =
+  entered-says p c b e =
       let p′ = p ++ (c ∷ []) in
       let s = P .permits (length p) c in
       let u = leb (load P c p′) (P .capacity) in
       let v = ltb (max (rejected P p′) (excess P)) b in
-      let f = and-three (eqb c 0 || (s && u)) (tried p c) v e in
-      let g : 1 ≤ c → (s && u) ≡ true = λ i. or-right (eqb c 0) (s && u) (ne-eqb c 0 (λ q. omega arith)) (f .0) in
-      let d = ltb-true (max (rejected P p′) (excess P)) b (f .2) in
+      let o = eqb c 0 || (s && u) in
+      let f = and-left (o && tried P p c) v e in
+      let g : 1 ≤ c → (s && u) ≡ true = λ i. rw (ne-eqb c 0 (λ q. omega arith)) at (and-left o (tried P p c) f) in
+      let d = ltb-true (max (rejected P p′) (excess P)) b (and-right (o && tried P p c) v e) in
       record {
         permitted = λ i. and-left s u (g i);
-        tries = f .1;
+        tries = and-right o (tried P p c) f;
         fits = λ i. leb-true (load P c p′) (P .capacity) (and-right s u (g i));
         rejects = omega arith;
         over = omega arith;
       }
 
-  pub entry-test : (p : List ℕ) (c b : ℕ) → Entry P tried p c b → entered P tried p c b ≡ true
+  pub entered-if : (p : List ℕ) (c b : ℕ) → Entered P p c b → entered P p c b ≡ true
   unfolding entered
-  entry-test p c b e = and-both _ _ (and-both _ _ (go c (e .permitted) (e .fits)) (e .tries)) (lt-ltb _ b (omega (arith, e .rejects, e .over)))
+  entered-if p c b e = and-intro _ _ (and-intro _ _ (go c (e .permitted) (e .fits)) (e .tries)) (lt-ltb _ b (omega (arith, e .rejects, e .over)))
     where
       go : (c : ℕ) → (1 ≤ c → P .permits (length p) c ≡ true) → (1 ≤ c → load P c (p ++ (c ∷ [])) ≤ P .capacity)
           → (eqb c 0 || (P .permits (length p) c && leb (load P c (p ++ (c ∷ []))) (P .capacity))) ≡ true
       go zero g h = refl
-      go (suc c) g h =
-          or-intro (eqb (suc c) 0) (P .permits (length p) (suc c) && leb (load P (suc c) (p ++ (suc c ∷ []))) (P .capacity))
-          (and-both _ _ (g (omega arith)) (le-leb _ _ (h (omega arith))))
+      go (suc c) g h = rw (ne-eqb (suc c) 0 (λ q. omega arith)) (and-intro _ _ (g (omega arith)) (le-leb _ _ (h (omega arith))))
 
-  pub partial-snoc : (p : List ℕ) (c b : ℕ) → c ≤ P .cores → Entry P tried p c b → Partial P p → Partial P (p ++ (c ∷ []))
+  pub partial-snoc : (p : List ℕ) (c b : ℕ) → c ≤ P .cores → Entered P p c b → Partial P p → Partial P (p ++ (c ∷ []))
   partial-snoc p c b l e h = record {
     core = snoc-each (λ k x. x ≤ P .cores) p c (h .core) l;
     permitted = snoc-each (λ k x. 1 ≤ x → P .permits k x ≡ true) p c (h .permitted) (e .permitted);
@@ -130,44 +108,44 @@ module _ (P : Problem) (tried : List ℕ → ℕ → Bool) where
       go d i j (no q) = rw (demandOn-other d c q) (h .fits d i j)
 
   module _ (k : ℕ) (below : List ℕ → ℕ → List Step) where
-    pub try-skip : (p : List ℕ) (c : ℕ) (cs : List ℕ) (b : ℕ) → entered P tried p c b ≡ false → tryAll P tried k below p (c ∷ cs) b ≡ tryAll P tried k below p cs b
+    pub try-skip : (p : List ℕ) (c : ℕ) (cs : List ℕ) (b : ℕ) → entered P p c b ≡ false → tryAll P k below p (c ∷ cs) b ≡ tryAll P k below p cs b
     unfolding tryAll boundAfter
     try-skip p c cs b e = rw e
 
-    pub try-enter : (p : List ℕ) (c : ℕ) (cs : List ℕ) (b : ℕ) → entered P tried p c b ≡ true
-        → tryAll P tried k below p (c ∷ cs) b
-        ≡ into k below p c b ++ tryAll P tried k below p cs (boundAfter P b (into k below p c b))
+    pub try-enter : (p : List ℕ) (c : ℕ) (cs : List ℕ) (b : ℕ) → entered P p c b ≡ true
+        → tryAll P k below p (c ∷ cs) b
+        ≡ into k below p c b ++ tryAll P k below p cs (boundAfter P b (into k below p c b))
     unfolding tryAll
     try-enter p c cs b e = rw e
 
     pub try-sound : (p cs : List ℕ)
-        → ((c b : ℕ) → List·Memᴰ c cs → entered P tried p c b ≡ true → Leaves (Under P p b) (into k below p c b))
-        → (b : ℕ) → Leaves (Under P p b) (tryAll P tried k below p cs b)
+        → ((c b : ℕ) → List·Memᴰ c cs → entered P p c b ≡ true → Leaves (Under P p b) (into k below p c b))
+        → (b : ℕ) → Leaves (Under P p b) (tryAll P k below p cs b)
     unfolding tryAll
     try-sound p [] h b = tt
     try-sound p (c ∷ cs) h b =
-        go (entered P tried p c b) refl (λ b′. try-sound p cs (λ d b″ i e. h d b″ (List·Memᴰ·tail i) e) b′)
+        go (entered P p c b) refl (λ b′. try-sound p cs (λ d b″ i e. h d b″ (List·Memᴰ·tail i) e) b′)
       where
         t : List Step
         t = into k below p c b
 
-        go : (s : Bool) → entered P tried p c b ≡ s → ((b′ : ℕ) → Leaves (Under P p b′) (tryAll P tried k below p cs b′))
-            → Leaves (Under P p b) (tryAll P tried k below p (c ∷ cs) b)
+        go : (s : Bool) → entered P p c b ≡ s → ((b′ : ℕ) → Leaves (Under P p b′) (tryAll P k below p cs b′))
+            → Leaves (Under P p b) (tryAll P k below p (c ∷ cs) b)
         go false e rest = rw (try-skip p c cs b e) (rest b)
         go true e rest =
             let here : Leaves (Under P p b) t = h c b (List·Memᴰ·head refl) e in
             let b′ : ℕ = boundAfter P b t in
             rw (try-enter p c cs b e)
-            (leaves-append (Under P p b) t (tryAll P tried k below p cs b′) here
-            (leaves-map (Under P p b′) (Under P p b) (λ q u. under-le P p b b′ (bound-le P p b t here) q u) (tryAll P tried k below p cs b′) (rest b′)))
+            (leaves-append (Under P p b) t (tryAll P k below p cs b′) here
+            (leaves-map (Under P p b′) (Under P p b) (λ q u. under-le P p b b′ (bound-le P p b t here) q u) (tryAll P k below p cs b′) (rest b′)))
 
   -- the step into a child, and what is below it
-  pub step-sound : (k : ℕ) (p : List ℕ) (c b : ℕ) → length p + suc k ≡ length (P .demands) → c ≤ P .cores → Partial P p → entered P tried p c b ≡ true
-      → (Partial P (p ++ (c ∷ [])) → Leaves (Under P (p ++ (c ∷ [])) b) (visit P tried k (p ++ (c ∷ [])) b))
-      → Leaves (Under P (p ++ (c ∷ [])) b) (into k (λ p′ b′. visit P tried k p′ b′) p c b)
+  pub step-sound : (k : ℕ) (p : List ℕ) (c b : ℕ) → length p + suc k ≡ length (P .demands) → c ≤ P .cores → Partial P p → entered P p c b ≡ true
+      → (Partial P (p ++ (c ∷ [])) → Leaves (Under P (p ++ (c ∷ [])) b) (visit P k (p ++ (c ∷ [])) b))
+      → Leaves (Under P (p ++ (c ∷ [])) b) (into k (λ p′ b′. visit P k p′ b′) p c b)
   unfolding stepInto visit
   step-sound zero p c b l m h e rest =
-      let n = entry p c b e in
+      let n = entered-says p c b e in
       let h′ = partial-snoc p c b m n h in (
         record {
           feasible = record { whole = length-append p (c ∷ []) ∙ l; core = h′ .core; permitted = h′ .permitted; fits = h′ .fits };
@@ -177,14 +155,14 @@ module _ (P : Problem) (tried : List ℕ → ℕ → Bool) where
         },
         tt,
       )
-  step-sound (suc k) p c b l m h e rest = rest (partial-snoc p c b m (entry p c b e) h)
+  step-sound (suc k) p c b l m h e rest = rest (partial-snoc p c b m (entered-says p c b e) h)
 
-  pub visit-sound : (k : ℕ) (p : List ℕ) (b : ℕ) → length p + k ≡ length (P .demands) → Partial P p → Leaves (Under P p b) (visit P tried k p b)
+  pub visit-sound : (k : ℕ) (p : List ℕ) (b : ℕ) → length p + k ≡ length (P .demands) → Partial P p → Leaves (Under P p b) (visit P k p b)
   unfolding visit
   visit-sound zero p b l h = tt
   visit-sound (suc k) p b l h =
-      try-sound k (λ p′ b′. visit P tried k p′ b′) p (choices (P .cores))
+      try-sound k (λ p′ b′. visit P k p′ b′) p (choices (P .cores))
       (λ c b′ i e. leaves-map (Under P (p ++ (c ∷ [])) b′) (Under P p b′) (λ q u. under-child P p c b′ q u)
-      (into k (λ p′ b″. visit P tried k p′ b″) p c b′)
+      (into k (λ p′ b″. visit P k p′ b″) p c b′)
       (step-sound k p c b′ l (choices-le (P .cores) c i) h e
       (λ h′. visit-sound k (p ++ (c ∷ [])) b′ (omega (arith, length-append p (c ∷ []))) h′))) b

@@ -1,11 +1,30 @@
 -- Facts about lists of steps, whichever walk they come from.
-use Prim.Native.Nat.{ℕ, zero, suc, _+_}
+use Prim.Native.Nat.{ℕ, zero, suc}
 use mathlib.Core.Path.{_≡_, refl, sym, ap, _∙_}
 use mathlib.Core.List.{List, [], _∷_, _++_}
 use mathlib.Core.Logic.{_⊎_, inl, inr}
 use lib.ListN.{take}
 use Rattle.allocation.specs.Placement.{Problem, rejected}
-use Rattle.allocation.specs.Walk.{Step, inner, leaf, boundAfter, storedAfter}
+use Rattle.allocation.specs.Walk.{Step, inner, leaf, boundAfter, storedAfter, NoLeaf, LastLeaf}
+
+-- one step more in front
+after : (s : Step) {t : List Step} {p : List ℕ} → LastLeaf t p → LastLeaf (s ∷ t) p
+after s l = record { earlier = s ∷ l .earlier; later = l .later; split = ap (λ (r : List Step). s ∷ r) (l .split); none-later = l .none-later }
+
+-- what is stored is the last leaf, or what was stored before if there is none
+pub last-stored : (q : List ℕ) (t : List Step) → LastLeaf t (storedAfter q t) ⊎ (NoLeaf t × (storedAfter q t ≡ q))
+unfolding storedAfter
+last-stored q [] = inr (tt, refl)
+last-stored q (inner ∷ t) = go (last-stored q t)
+  where
+    go : LastLeaf t (storedAfter q t) ⊎ (NoLeaf t × (storedAfter q t ≡ q)) → LastLeaf (inner ∷ t) (storedAfter q t) ⊎ (NoLeaf t × (storedAfter q t ≡ q))
+    go (inl l) = inl (after inner l)
+    go (inr n) = inr n
+last-stored q (leaf p ∷ t) = inl (go (last-stored p t))
+  where
+    go : LastLeaf t (storedAfter p t) ⊎ (NoLeaf t × (storedAfter p t ≡ p)) → LastLeaf (leaf p ∷ t) (storedAfter p t)
+    go (inl l) = after (leaf p) l
+    go (inr n) = record { earlier = []; later = t; split = ap (λ (r : List ℕ). leaf r ∷ t) (sym (n .1)); none-later = n .0 }
 
 -- every placement that the steps complete has the property
 abbrev pub Leaves : (List ℕ → Type 0) → List Step → Type 0

@@ -1,6 +1,6 @@
 pub mod Placement
 pub mod Best
-pub mod Walk
 pub mod Rule
+pub mod Walk
 pub mod TableOrder
 pub mod Guarantee

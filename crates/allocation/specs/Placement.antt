@@ -1,15 +1,14 @@
 -- Placements of tasks on cores, and which of them are feasible.
-use Prim.Native.Nat.{ℕ, _+_, _*_, _-_, _≤_, _<_}
+use Prim.Native.Nat.{ℕ, _*_, _-_, _≤_, _<_}
 use mathlib.Core.Path.{_≡_}
-use mathlib.Core.Bool.{Bool, true, cond}
-use mathlib.Core.List.{List, [], _∷_}
-use lib.Dec.{eqb}
+use mathlib.Core.Bool.{Bool, true}
+use mathlib.Core.List.{List}
 use lib.ListN.{length, getD}
-use Rattle.numbers.specs.Sums.{sumOver}
+use Rattle.numbers.specs.Loads.{demandOn, sum}
 
 -- What is planned. Tasks are counted from 0, in the order of their demands.
 pub record Problem : Type 0 where
-  -- the hyperperiod (the paper's frame H), which no core's load may pass
+  -- the hyperperiod (the paper's frame H), which no core's load may exceed
   pub capacity : ℕ
   -- the number of cores, m
   pub cores : ℕ
@@ -18,17 +17,15 @@ pub record Problem : Type 0 where
   -- whether a task may run on a core
   pub permits : ℕ → ℕ → Bool
 
+-- a task may run on every core
+abbrev pub anyCore : ℕ → ℕ → Bool
+anyCore task core = true
+
+-- the problem that a capacity, a number of cores and the tasks' demands state
+abbrev pub problemOf : ℕ → ℕ → List ℕ → Problem
+problemOf capacity cores demands = record { capacity = capacity; cores = cores; demands = demands; permits = anyCore }
+
 -- A placement is the list of the tasks' choices: a core, 1 to m, or 0 for rejected (the paper's left out). A shorter list is the beginning of one.
-
--- the demand of the tasks whose choice is c: the load of core c, and for c = 0 the rejected demand
-unfoldable pub demandOn : ℕ → List ℕ → List ℕ → ℕ
-demandOn c [] p = 0
-demandOn c (w ∷ ws) [] = 0
-demandOn c (w ∷ ws) (x ∷ p) = cond (eqb x c) w 0 + demandOn c ws p
-
--- the sum of a list
-abbrev pub sum : List ℕ → ℕ
-sum ws = sumOver (λ w. w) ws
 
 module _ (P : Problem) where
   -- the load of core c

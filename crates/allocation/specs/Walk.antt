@@ -1,10 +1,12 @@
 -- The walk, as the list of its steps, and its answer within a step limit. Tasks are in planning order.
 use Prim.Native.Nat.{ℕ, zero, suc, _+_, max, min}
+use mathlib.Core.Path.{_≡_}
 use mathlib.Core.Bool.{Bool, true, false, cond, _&&_, _||_}
 use mathlib.Core.List.{List, [], _∷_, _++_}
 use lib.Dec.{eqb, leb, ltb}
 use lib.ListN.{length, take, replicate}
 use Rattle.allocation.specs.Placement.{Problem, load, rejected, total, excess}
+use Rattle.allocation.specs.Rule.{tried}
 
 -- the n numbers from k upward
 unfoldable pub upFrom : ℕ → ℕ → List ℕ
@@ -41,15 +43,27 @@ boundAfter P b [] = b
 boundAfter P b (inner ∷ t) = boundAfter P b t
 boundAfter P b (leaf p ∷ t) = boundAfter P (rejected P p) t
 
+-- no step completes a placement
+abbrev pub NoLeaf : List Step → Type 0
+NoLeaf [] = Unit {0}
+NoLeaf (inner ∷ t) = NoLeaf t
+NoLeaf (leaf p ∷ t) = ⊥
+
+-- p is the last placement that the steps complete
+pub record LastLeaf (steps : List Step) (p : List ℕ) : Type 0 where
+  pub earlier : List Step
+  pub later : List Step
+  pub split : steps ≡ earlier ++ (leaf p ∷ later)
+  pub none-later : NoLeaf later
+
 -- The walk's answer: the stored placement, its rejected demand, the steps made, and whether the limit ran out before the walk's end.
-pub record Answer : Type 0 where
+pub record WalkAnswer : Type 0 where
   pub placement : List ℕ
   pub rejected : ℕ
   pub steps : ℕ
   pub spent : Bool
 
--- `tried p c` says whether the walk looks at choice c at all, where p are the choices so far.
-module _ (P : Problem) (tried : List ℕ → ℕ → Bool) where
+module _ (P : Problem) where
   -- the next task may take choice c: it is left out, or core c is permitted and its load stays at most H
   abbrev pub fits : List ℕ → ℕ → Bool
   fits p c = eqb c 0 || (P .permits (length p) c && leb (load P c (p ++ (c ∷ []))) (P .capacity))
@@ -60,7 +74,7 @@ module _ (P : Problem) (tried : List ℕ → ℕ → Bool) where
 
   -- the entry rule: whether choice c is entered
   unfoldable pub entered : List ℕ → ℕ → ℕ → Bool
-  entered p c bound = fits p c && tried p c && improves p c bound
+  entered p c bound = fits p c && tried P p c && improves p c bound
 
   -- the steps of trying the choices cs in turn; `below` gives those that follow an entered one, with k tasks still to place
   unfoldable pub tryAll : ℕ → (List ℕ → ℕ → List Step) → List ℕ → List ℕ → ℕ → List Step
@@ -83,14 +97,10 @@ module _ (P : Problem) (tried : List ℕ → ℕ → Bool) where
   stored limit = storedAfter (replicate (length (P .demands)) 0) (take limit trace)
 
   -- the answer within a step limit: spent exactly if the complete walk has more steps than the limit
-  unfoldable pub answer : ℕ → Answer
+  unfoldable pub answer : ℕ → WalkAnswer
   answer limit = record {
     placement = stored limit;
     rejected = rejected P (stored limit);
     steps = min limit (length trace);
     spent = ltb limit (length trace);
   }
-
--- the rule that looks at every choice
-abbrev pub every : List ℕ → ℕ → Bool
-every p c = true

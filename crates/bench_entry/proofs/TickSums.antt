@@ -6,13 +6,13 @@ use lib.ListN.{take, replicate}
 use native.Mathlib.Omega.{arith}
 use native.Mathlib.Nat.{mod-lt}
 use borrow.Author.Tests.{lt-ltb, le-ltb}
-use Rattle.taskset.specs.Fields.{taskCount}
+use Rattle.stored.specs.Form.{taskCount}
 use Rattle.edf.specs.declared.Slot.{Slot}
 use Rattle.edf.specs.Tick.{tick}
-use Rattle.runner.specs.Answers.{answerOf}
-use Rattle.runner.specs.Starts.{startOf}
+use Rattle.runner.specs.Answers.{tickAnswer}
+use Rattle.start.specs.Starts.{startOf}
 use Rattle.runner.specs.declared.Ticked.{Ticked}
-use Rattle.runner.specs.declared.Started.{Started}
+use Rattle.start.specs.declared.Started.{Started}
 use Rattle.bench_entry.specs.Ticks.{full, plus, sumOfRuns, benchSum}
 
 -- The sum so far and the record now give what is still to come.
@@ -25,18 +25,18 @@ pub sum-start : (start : List Slot) (ticks : ℕ) (requests : List ℕ) → requ
 sum-start start ticks requests e = record { asks = e; small = omega arith; is = refl }
 
 module _ {start : List Slot} {ticks : ℕ} {requests : List ℕ} {slots : List Slot} {sum left : ℕ} (s : Summing start ticks requests slots sum left) where
-  sum-step : (k : ℕ) → left ≡ suc k → sumOfRuns (plus sum (tick slots full .run)) (tick slots full .slots) k ≡ sumOfRuns 0 start ticks
+  sum-step : (k : ℕ) → left ≡ suc k → sumOfRuns (plus sum (tick 0 slots full .run)) (tick 0 slots full .slots) k ≡ sumOfRuns 0 start ticks
   unfolding sumOfRuns
   sum-step k e = sym (ap (sumOfRuns sum slots) e) ∙ s .is
 
-  pub sum-next : (t : Ticked) {next : ℕ} → 0 < left → answerOf t ≡ tick slots requests → next ≡ plus sum (t .run) → Summing start ticks requests (t .core .slots) next (left - 1)
-  unfolding answerOf
-  sum-next t {next} h w q = let a : answerOf t ≡ tick slots full = w ∙ ap (tick slots) (s .asks) in record {
+  pub sum-next : (t : Ticked) {next : ℕ} → 0 < left → tickAnswer t ≡ tick 0 slots requests → next ≡ plus sum (t .run) → Summing start ticks requests (t .core .slots) next (left - 1)
+  unfolding tickAnswer
+  sum-next t {next} h w q = let a : tickAnswer t ≡ tick 0 slots full = w ∙ ap (tick 0 slots) (s .asks) in record {
     asks = s .asks;
     small = rw q (mod-lt (sum + t .run % 65536) (omega arith));
     is =
         ap (λ x. sumOfRuns x (t .core .slots) (left - 1)) (q ∙ ap (λ b. plus sum (b .run)) a)
-        ∙ ap (λ b. sumOfRuns (plus sum (tick slots full .run)) (b .slots) (left - 1)) a
+        ∙ ap (λ b. sumOfRuns (plus sum (tick 0 slots full .run)) (b .slots) (left - 1)) a
         ∙ sum-step (left - 1) (omega arith);
   }
 

@@ -4,10 +4,10 @@ use mathlib.Core.List.{List}
 use mathlib.Core.Bool.{cond}
 use lib.Dec.{ltb}
 use lib.ListN.{take, replicate}
-use Rattle.taskset.specs.Fields.{taskCount}
+use Rattle.stored.specs.Form.{taskCount}
 use Rattle.edf.specs.declared.Slot.{Slot}
-use Rattle.edf.specs.Tick.{Answer, tick}
-use Rattle.runner.specs.Starts.{startOf}
+use Rattle.edf.specs.Tick.{TickAnswer, tick}
+use Rattle.start.specs.Starts.{startOf}
 
 -- every task asks for all it can
 abbrev pub full : List ℕ
@@ -21,7 +21,7 @@ plus sum run = (sum + run % 65536) % 4294967296
 unfoldable pub sumOfRuns : ℕ → List Slot → ℕ → ℕ
 sumOfRuns sum slots zero = sum
 sumOfRuns sum slots (suc ticks) =
-    let a : Answer = tick slots full in
+    let a : TickAnswer = tick 0 slots full in
     sumOfRuns (plus sum (a .run)) (a .slots) ticks
 
 -- the sum for a table with all its tasks on core 1; 0 for more than sixteen tasks

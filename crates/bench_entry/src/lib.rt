@@ -49,7 +49,7 @@ pub extern "C" fn bench_tick(table: &[u8], ticks: u32) -> u64
     if 16 < n {
         return 0;
     }
-    let started = Core::fresh(table, &placement[..n], 1);
+    let started = start::fresh(table, &placement[..n], 1);
     let core = started.core;
     sum_of_runs(core, ticks)
 }

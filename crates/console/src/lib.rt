@@ -1,15 +1,22 @@
-// What the programs share: reading their input and printing numbers.
-ghost use Prim.Native.Nat.{_<_};
+// What the programs share: reading their input and writing a text.
+ghost use mathlib.Core.Path.{_≡_};
+ghost use Prim.Native.Nat.{_≤_};
+ghost use lib.ListN.{drop};
 ghost use Rattle.io.specs.Counts.{Counts};
-use refusal::Outcome;
+use text::Text;
 
 const IN: i32 = 0;
 
 const OUT: i32 = 1;
 
+const ERROR: i32 = 2;
+
 // Reads up to `n` bytes of the input into the front of the buffer and returns how many there were; none where the buffer is shorter.
+// What stands behind the first `n` bytes stays as it was.
 pub fn read_next(buffer: &mut [u8], n: usize) -> usize
-    ensures { λ r. ⌜ Counts r (now (buffer .exit)) ⌝ }
+    ensures counts { λ r. ⌜ Counts r (now (buffer .exit)) ⌝ }
+    ensures most { λ r. ⌜ r ≤ n ⌝ }
+    ensures kept { λ r. ⌜ drop n (now (buffer .exit)) ≡ drop n (now (buffer .entry)) ⌝ }
 {
     if buffer.len() < n {
         return 0;
@@ -17,44 +24,20 @@ pub fn read_next(buffer: &mut [u8], n: usize) -> usize
     io::read_full(IN, &mut buffer[..n])
 }
 
-// Reads the number of cases in two bytes, lowest first; 0 where the input ends before.
-pub fn read_count() -> usize
-    ensures { λ r. ⌜ r < 65536 ⌝ }
-{
-    let mut count = [0u8; 2];
-    if read_next(&mut count, 2) < 2 {
-        return 0;
+// Writes the first `n` bytes, or all where there are fewer; false where the output takes no more.
+fn write_front(bytes: &[u8], n: usize) -> bool {
+    if bytes.len() < n {
+        return io::write_all(OUT, bytes);
     }
-    wire::size(count[0]) + 256 * wire::size(count[1])
+    io::write_all(OUT, &bytes[..n])
 }
 
-// A number in decimal digits.
-pub fn print(x: u64) {
-    io::print_decimal(OUT, x);
-}
-
-// A space and a number.
-pub fn field(x: u64) {
-    io::write_all(OUT, b" ");
-    io::print_decimal(OUT, x);
-}
-
-// A word of the output.
-pub fn text(bytes: &[u8]) {
-    io::write_all(OUT, bytes);
-}
-
-pub fn end_line() {
-    io::write_all(OUT, b"\n");
-}
-
-// Number and place of an outcome; zeros where nothing is refused.
-pub fn print_outcome(outcome: Outcome) {
-    match outcome {
-        Outcome::Accepted => text(b"0 0"),
-        Outcome::Refused(cause) => {
-            print(refusal::number(cause) as u64);
-            field(refusal::place(cause) as u64);
-        }
+// Writes what a text shows; false where that failed, which is said on standard error.
+pub fn show(t: Text) -> bool {
+    let bytes = t.bytes;
+    if write_front(&bytes, t.length) {
+        return true;
     }
+    io::write_all(ERROR, b"standard output failed\n");
+    false
 }

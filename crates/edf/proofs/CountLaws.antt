@@ -1,136 +1,114 @@
 -- How many ticks a task receives: what remains of its job up to the next release, and what it is owed in each period after that.
 use Prim.Native.Nat.{ℕ, zero, suc, _+_, _*_, _-_, _≤_, _<_, zero-le}
-use mathlib.Core.Path.{_≡_, refl, sym, ap, _∙_}
+use mathlib.Core.Path.{_≡_, refl, sym, _∙_}
 use mathlib.Core.Bool.{Bool, true, false, cond}
-use mathlib.Core.Logic.{inl}
 use mathlib.Core.List.{List, [], _∷_}
 use native.Mathlib.Omega.{arith}
 use lib.Dec.{eqb}
 use lib.ListN.{length, getD, take, drop}
 use borrow.Author.Tests.{eqb-true}
 use Rattle.edf.specs.declared.Slot.{Slot}
-use Rattle.edf.specs.Slots.{emptySlot, slotAt, each}
-use Rattle.edf.specs.Tick.{request, due, released, chosen, ran, run, pass, passAll}
+use Rattle.edf.specs.Slots.{slotAt}
+use Rattle.edf.specs.Tick.{request, owedFor, due, released, release, releaseAll, chosen, ran, run, advance, stepped, ticked}
 use Rattle.edf.specs.Guarantee.{runs, count}
-use Rattle.edf.proofs.SlotLaws.{all-at, at-each}
-use Rattle.edf.proofs.Machine.{Rule, release, releaseAll, stepped, ticked}
-use Rattle.edf.proofs.DemandLaws.{Fits, is-empty, pass-occupied, release-later, release-now}
-use Rattle.edf.proofs.ChoiceLaws.{Owes, chosen-owes}
+use Rattle.edf.proofs.SlotSteps.{ready-at, advanced-at}
+use Rattle.edf.proofs.DemandLaws.{advance-occupied, release-later, release-now}
+use Rattle.edf.proofs.ChoiceLaws.{chosen-owes}
 use Rattle.edf.proofs.StepLaws.{Good, prompt, tick-stepped, stepped-good}
 
 -- What a stretch of ticks gave a task: never more than it is owed, and exactly that once the stretch is complete.
-pub record Served (complete : Type 0) (got owed : ℕ) : Type 0 where
+pub record Receives (complete : Type 0) (got owed : ℕ) : Type 0 where
   pub most : got ≤ owed
   pub exact : complete → got ≡ owed
 
-owes-at : (k j : ℕ) (slots : List Slot) (i : ℕ) → Owes k j slots → 0 < slotAt slots i .period → k + i ≡ j → 0 < slotAt slots i .remaining
-owes-at k j [] i c h e = h
-owes-at k j (s ∷ slots) zero c h e = c .0 (omega arith)
-owes-at k j (s ∷ slots) (suc i) c h e = owes-at (suc k) j slots i (c .1) h (omega arith)
-
--- Slot number m after the releases of a tick, and after task j has run and the tick has passed.
+-- Slot number m after the releases of a tick, and after task j has run and the slot has advanced.
 pub record Moved (m j : ℕ) (s next : Slot) : Type 0 where
   pub period : next .period ≡ s .period
   pub budget : next .budget ≡ s .budget
   pub until : next .until ≡ s .until - 1
   pub spent : cond (eqb m j) 1 0 + next .remaining ≡ s .remaining
 
-moved : (m j : ℕ) (s : Slot) → 0 < s .period → (m ≡ j → 0 < s .remaining) → Moved m j s (pass m (run j m s))
+moved : (m j : ℕ) (s : Slot) → 0 < s .period → (m ≡ j → 0 < s .remaining) → Moved m j s (advance m (run j m s))
 moved m j s h f = go (eqb m j) refl
   where
-    go : (b : Bool) → eqb m j ≡ b → Moved m j s (pass m (cond b (ran s) s))
+    go : (b : Bool) → eqb m j ≡ b → Moved m j s (advance m (cond b (ran s) s))
     go true e =
-        rw (pass-occupied m (ran s) h)
+        rw (advance-occupied m (ran s) h)
         (record { period = refl; budget = refl; until = refl; spent = rw e (omega (arith, f (eqb-true m j e))) })
     go false e =
-        rw (pass-occupied m s h)
+        rw (advance-occupied m s h)
         (record { period = refl; budget = refl; until = refl; spent = rw e (omega arith) })
 
-run-empty : (j k : ℕ) → run j k emptySlot ≡ emptySlot
-run-empty j k = go (eqb k j)
-  where
-    go : (b : Bool) → cond b (ran emptySlot) emptySlot ≡ emptySlot
-    go true = refl
-    go false = refl
-
-module _ (R : Rule) where
-  release-empty : (requests : List ℕ) (k : ℕ) → release R requests k emptySlot ≡ emptySlot
-  unfolding release
-  release-empty requests k = refl
-
-  release-period : (requests : List ℕ) (k : ℕ) (s : Slot) → release R requests k s .period ≡ s .period
+module _ (charge : ℕ) where
+  release-period : (requests : List ℕ) (k : ℕ) (s : Slot) → release charge requests k s .period ≡ s .period
   unfolding release
   release-period requests k s = go (due s)
     where
-      go : (b : Bool) → cond b (released s (R .owed (s .budget) (request requests k))) s .period ≡ s .period
+      go : (b : Bool) → cond b (released s (owedFor charge (s .budget) (request requests k))) s .period ≡ s .period
       go true = refl
       go false = refl
 
   -- slot i over a tick
   track : (slots : List Slot) (requests : List ℕ) (i : ℕ) → 0 < slotAt slots i .period
-      → Moved (suc i) (stepped R slots requests .run) (release R requests (suc i) (slotAt slots i)) (slotAt (stepped R slots requests .slots) i)
-  unfolding stepped passAll releaseAll
+      → Moved (suc i) (stepped charge slots requests .run) (release charge requests (suc i) (slotAt slots i)) (slotAt (stepped charge slots requests .slots) i)
+  unfolding stepped
   track slots requests i h =
-      let ready : List Slot = releaseAll R requests slots in
+      let ready : List Slot = releaseAll charge requests slots in
       let j : ℕ = chosen ready in
-      let one : 1 + i ≡ suc i = omega arith in
-      let at : slotAt ready i ≡ release R requests (suc i) (slotAt slots i) = rw one at (at-each (release R requests) (release-empty requests) 1 slots i) in
+      let at : slotAt ready i ≡ release charge requests (suc i) (slotAt slots i) = ready-at charge requests slots i in
       let there : 0 < slotAt ready i .period = rw (at, release-period requests (suc i) (slotAt slots i)) h in
-      let m : Moved (suc i) j (slotAt ready i) (pass (suc i) (run j (suc i) (slotAt ready i))) =
-      moved (suc i) j (slotAt ready i) there (λ e. owes-at 1 j ready i (chosen-owes ready) there (omega arith)) in
-      let end : slotAt (each pass (each (run j) ready)) i ≡ pass (suc i) (run j (suc i) (slotAt ready i)) =
-      at-each pass (λ k. refl) 1 (each (run j) ready) i
-      ∙ ap (pass (suc i)) (rw one at (at-each (run j) (run-empty j) 1 ready i)) in
-      rw (← at, end) m
+      let m : Moved (suc i) j (slotAt ready i) (advance (suc i) (run j (suc i) (slotAt ready i))) =
+      moved (suc i) j (slotAt ready i) there (λ e. chosen-owes ready i (omega arith)) in
+      rw (← at, advanced-at j ready i) m
 
   module _ (i : ℕ) where
     -- Up to its next release a slot receives what remains of its job.
-    job : (ticks : List (List ℕ)) (slots : List Slot) (u : ℕ) → Good R slots → 0 < slotAt slots i .period → slotAt slots i .until ≡ u
-        → Served (u ≤ length ticks) (count (suc i) (take u (runs (ticked R slots ticks)))) (slotAt slots i .remaining)
-    job ticks slots zero g h e = record { most = zero-le; exact = λ _. sym (prompt R slots i (g .met 0) e) }
+    job : (ticks : List (List ℕ)) (slots : List Slot) (u : ℕ) → Good charge slots → 0 < slotAt slots i .period → slotAt slots i .until ≡ u
+        → Receives (u ≤ length ticks) (count (suc i) (take u (runs (ticked charge slots ticks)))) (slotAt slots i .remaining)
+    job ticks slots zero g h e = record { most = zero-le; exact = λ _. sym (prompt charge slots i (g .met 0) e) }
     job [] slots (suc u) g h e = record { most = zero-le; exact = λ w. absurd (omega arith) }
     job (requests ∷ rest) slots (suc u) g h e =
         let s : Slot = slotAt slots i in
-        let next : List Slot = stepped R slots requests .slots in
-        let same : release R requests (suc i) s ≡ s = release-later R requests (suc i) s (all-at (Fits R) (inl is-empty) slots i (g .fit)) (omega arith) in
-        let m : Moved (suc i) (stepped R slots requests .run) s (slotAt next i) = rw same at (track slots requests i h) in
-        let r : Served (u ≤ length rest) (count (suc i) (take u (runs (ticked R next rest)))) (slotAt next i .remaining) =
-        job rest next u (stepped-good R slots requests g) (rw (m .period) h) (m .until ∙ omega arith) in
-        rw (tick-stepped R slots requests (g .fit))
+        let next : List Slot = stepped charge slots requests .slots in
+        let same : release charge requests (suc i) s ≡ s = release-later charge requests (suc i) s (omega arith) in
+        let m : Moved (suc i) (stepped charge slots requests .run) s (slotAt next i) = rw same at (track slots requests i h) in
+        let r : Receives (u ≤ length rest) (count (suc i) (take u (runs (ticked charge next rest)))) (slotAt next i .remaining) =
+        job rest next u (stepped-good charge slots requests g) (rw (m .period) h) (m .until ∙ omega arith) in
+        rw (tick-stepped charge slots requests g)
         (record { most = omega (arith, m .spent, r .most); exact = λ w. omega (arith, m .spent, r .exact (omega arith)) })
 
     -- In each period to come it receives what it is owed for it. The period begins at tick `start`, k periods after the next release.
-    pub periods : (p b : ℕ) (ticks : List (List ℕ)) (slots : List Slot) (start u k : ℕ) → Good R slots
+    pub periods : (p b : ℕ) (ticks : List (List ℕ)) (slots : List Slot) (start u k : ℕ) → Good charge slots
         → slotAt slots i .period ≡ suc p → slotAt slots i .budget ≡ b → slotAt slots i .until ≡ u → start ≡ u + k * suc p → start < length ticks
-        → Served (start + suc p ≤ length ticks) (count (suc i) (take (suc p) (drop start (runs (ticked R slots ticks)))))
-        (R .owed b (request (getD ticks start []) (suc i)))
+        → Receives (start + suc p ≤ length ticks) (count (suc i) (take (suc p) (drop start (runs (ticked charge slots ticks)))))
+        (owedFor charge b (request (getD ticks start []) (suc i)))
     periods p b [] slots start u k g hp hb e at l = absurd (omega arith)
     periods p b (requests ∷ rest) slots zero u k g hp hb e at l =
         let s : Slot = slotAt slots i in
-        let next : List Slot = stepped R slots requests .slots in
+        let next : List Slot = stepped charge slots requests .slots in
         let h : 0 < s .period = omega arith in
-        let new : release R requests (suc i) s ≡ released s (R .owed (s .budget) (request requests (suc i))) =
-        release-now R requests (suc i) s h (omega arith) in
-        let m : Moved (suc i) (stepped R slots requests .run) (released s (R .owed (s .budget) (request requests (suc i)))) (slotAt next i) =
+        let new : release charge requests (suc i) s ≡ released s (owedFor charge (s .budget) (request requests (suc i))) =
+        release-now charge requests (suc i) s h (omega arith) in
+        let m : Moved (suc i) (stepped charge slots requests .run) (released s (owedFor charge (s .budget) (request requests (suc i)))) (slotAt next i) =
         rw new at (track slots requests i h) in
-        let r : Served (p ≤ length rest) (count (suc i) (take p (runs (ticked R next rest)))) (slotAt next i .remaining) =
-        job rest next p (stepped-good R slots requests g) (rw (m .period) h) (m .until ∙ omega arith) in
-        rw (tick-stepped R slots requests (g .fit), ← hb)
+        let r : Receives (p ≤ length rest) (count (suc i) (take p (runs (ticked charge next rest)))) (slotAt next i .remaining) =
+        job rest next p (stepped-good charge slots requests g) (rw (m .period) h) (m .until ∙ omega arith) in
+        rw (tick-stepped charge slots requests g, ← hb)
         (record { most = omega (arith, m .spent, r .most); exact = λ w. omega (arith, m .spent, r .exact (omega arith)) })
     periods p b (requests ∷ rest) slots (suc start) zero zero g hp hb e at l = absurd (omega arith)
     periods p b (requests ∷ rest) slots (suc start) zero (suc k) g hp hb e at l =
         let s : Slot = slotAt slots i in
-        let next : List Slot = stepped R slots requests .slots in
+        let next : List Slot = stepped charge slots requests .slots in
         let h : 0 < s .period = omega arith in
-        let m : Moved (suc i) (stepped R slots requests .run) (released s (R .owed (s .budget) (request requests (suc i)))) (slotAt next i) =
-        rw (release-now R requests (suc i) s h e) at (track slots requests i h) in
-        let r = periods p b rest next start p k (stepped-good R slots requests g) (m .period ∙ hp) (m .budget ∙ hb) (m .until ∙ omega arith) (omega arith) (omega arith) in
-        rw (tick-stepped R slots requests (g .fit)) (record { most = r .most; exact = λ w. r .exact (omega arith) })
+        let m : Moved (suc i) (stepped charge slots requests .run) (released s (owedFor charge (s .budget) (request requests (suc i)))) (slotAt next i) =
+        rw (release-now charge requests (suc i) s h e) at (track slots requests i h) in
+        let r = periods p b rest next start p k (stepped-good charge slots requests g) (m .period ∙ hp) (m .budget ∙ hb) (m .until ∙ omega arith) (omega arith) (omega arith) in
+        rw (tick-stepped charge slots requests g) (record { most = r .most; exact = λ w. r .exact (omega arith) })
     periods p b (requests ∷ rest) slots (suc start) (suc u) k g hp hb e at l =
         let s : Slot = slotAt slots i in
-        let next : List Slot = stepped R slots requests .slots in
+        let next : List Slot = stepped charge slots requests .slots in
         let h : 0 < s .period = omega arith in
-        let m : Moved (suc i) (stepped R slots requests .run) s (slotAt next i) =
-        rw (release-later R requests (suc i) s (all-at (Fits R) (inl is-empty) slots i (g .fit)) (omega arith)) at (track slots requests i h) in
-        let r = periods p b rest next start u k (stepped-good R slots requests g) (m .period ∙ hp) (m .budget ∙ hb) (m .until ∙ omega arith) (omega arith) (omega arith) in
-        rw (tick-stepped R slots requests (g .fit)) (record { most = r .most; exact = λ w. r .exact (omega arith) })
+        let m : Moved (suc i) (stepped charge slots requests .run) s (slotAt next i) =
+        rw (release-later charge requests (suc i) s (omega arith)) at (track slots requests i h) in
+        let r = periods p b rest next start u k (stepped-good charge slots requests g) (m .period ∙ hp) (m .budget ∙ hb) (m .until ∙ omega arith) (omega arith) (omega arith) in
+        rw (tick-stepped charge slots requests g) (record { most = r .most; exact = λ w. r .exact (omega arith) })

@@ -8,7 +8,7 @@ use native.Mathlib.Omega.{arith}
 use native.Mathlib.Nat.{le-refl}
 use lib.Dec.{ltb}
 use borrow.Author.Tests.{ltb-true, ltb-false}
-use Rattle.numbers.proofs.InsertLaws.{cond-both}
+use Rattle.numbers.proofs.BoolLaws.{cond-both}
 use Rattle.edf.specs.declared.Claim.{Claim}
 use Rattle.edf.specs.Earliest.{consIf, sooner, soonest, earliest, In, IsEarliest, NamesEarliest}
 

@@ -1,5 +1,5 @@
--- Rows h and i of the paper: row c's tasks on core 1, by the runner and by the book; and the guarantee of that core.
-use Prim.Native.Nat.{ℕ, zero, suc, _*_, _≤_, _<_}
+-- Rows h and i of the paper: row c's tasks on core 1, by the book; the guarantee of that core; and a board with a charge and first releases.
+use Prim.Native.Nat.{ℕ, zero, suc, _+_, _*_, _≤_, _<_}
 use mathlib.Core.Path.{_≡_, refl}
 use mathlib.Core.List.{List, [], _∷_}
 use native.Mathlib.Omega.{arith}
@@ -8,15 +8,15 @@ use lib.ListN.{replicate}
 use Rattle.numbers.specs.First.{first, firstFrom}
 use Rattle.numbers.specs.Rows.{row, tab, upTo, entry}
 use Rattle.numbers.specs.Sums.{sumTo}
-use Rattle.edf.specs.Slots.{testAt, firstSlot}
-use Rattle.edf.specs.Tick.{release, releaseAll, chosen, passAll, stepped, refused, tick}
-use Rattle.edf.specs.Fresh.{Tasks, period, budget, freshSlot, freshSlots, demandOn, load}
+use Rattle.edf.specs.Slots.{slotTest, firstSlot}
+use Rattle.edf.specs.Tick.{owedFor, release, releaseAll, chosen, advanceAll, stepped, refusedTick, tick}
+use Rattle.edf.specs.Fresh.{Tasks, plainTasks, period, budget, firstRelease, freshSlot, freshSlots}
 use Rattle.edf.specs.Book.{book, names}
-use Rattle.edf.specs.Guarantee.{answers, runs, TickGuarantee}
+use Rattle.edf.specs.Guarantee.{answers, runs, owedIn, TickGuarantee}
 use Rattle.edf.proofs.GuaranteeLaws.{tick-guarantee}
 
 rowC : Tasks
-rowC = record { n = 3; periods = 2 ∷ 3 ∷ 6 ∷ []; budgets = 1 ∷ 1 ∷ 1 ∷ []; placement = 1 ∷ 1 ∷ 1 ∷ [] }
+rowC = plainTasks 3 (2 ∷ 3 ∷ 6 ∷ []) (1 ∷ 1 ∷ 1 ∷ []) (1 ∷ 1 ∷ 1 ∷ [])
 
 full : List ℕ
 full = replicate 16 1
@@ -28,20 +28,12 @@ ticksH = replicate 6 full
 ticksI : List (List ℕ)
 ticksI = full ∷ full ∷ (0 ∷ replicate 15 1) ∷ full ∷ full ∷ full ∷ []
 
-row-h : runs (answers rowC 1 ticksH) ≡ 1 ∷ 2 ∷ 1 ∷ 2 ∷ 1 ∷ 3 ∷ []
-unfolding rowC ticksH full first firstFrom testAt firstSlot release releaseAll chosen passAll stepped refused tick freshSlot freshSlots row tab upTo
-row-h = refl
-
-row-h-book : names 0 (book rowC 1) ticksH ≡ 1 ∷ 2 ∷ 1 ∷ 2 ∷ 1 ∷ 3 ∷ []
-unfolding rowC ticksH full book
+row-h-book : names rowC 1 ticksH ≡ 1 ∷ 2 ∷ 1 ∷ 2 ∷ 1 ∷ 3 ∷ []
+unfolding rowC ticksH full owedFor book
 row-h-book = refl
 
-row-i : runs (answers rowC 1 ticksI) ≡ 1 ∷ 2 ∷ 3 ∷ 2 ∷ 1 ∷ 0 ∷ []
-unfolding rowC ticksI full first firstFrom testAt firstSlot release releaseAll chosen passAll stepped refused tick freshSlot freshSlots row tab upTo
-row-i = refl
-
-row-i-book : names 0 (book rowC 1) ticksI ≡ 1 ∷ 2 ∷ 3 ∷ 2 ∷ 1 ∷ 0 ∷ []
-unfolding rowC ticksI full book
+row-i-book : names rowC 1 ticksI ≡ 1 ∷ 2 ∷ 3 ∷ 2 ∷ 1 ∷ 0 ∷ []
+unfolding rowC ticksI full owedFor book
 row-i-book = refl
 
 -- The core of row c is exactly full, and has the guarantee for every list of ticks.
@@ -54,14 +46,40 @@ below-three P a b c (suc zero) h = b
 below-three P a b c (suc (suc zero)) h = c
 below-three P a b c (suc (suc (suc k))) h = absurd (omega arith)
 
-row-c : (ticks : List (List ℕ)) → TickGuarantee rowC 1 ticks
-unfolding rowC demandC load demandOn sumTo
+row-c : (ticks : List (List ℕ)) → TickGuarantee rowC 1 (freshSlots rowC 1) ticks
+unfolding rowC demandC sumTo
 row-c = tick-guarantee 6 demandC rowC 1 (record {
   tasks-most = lit≤ tt;
   hyperperiod-least = lit≤ tt;
   period-least = below-three (λ k. 1 ≤ period rowC k) (lit≤ tt) (lit≤ tt) (lit≤ tt);
   period-most = below-three (λ k. period rowC k ≤ 10000) (lit≤ tt) (lit≤ tt) (lit≤ tt);
   budget-least = below-three (λ k. 1 ≤ budget rowC k) (lit≤ tt) (lit≤ tt) (lit≤ tt);
-  budget-most = below-three (λ k. budget rowC k ≤ period rowC k) (lit≤ tt) (lit≤ tt) (lit≤ tt);
-  demand-exact = below-three (λ k. demandC k * period rowC k ≡ budget rowC k * 6) refl refl refl;
-}) (lit≤ tt)
+  budget-most = below-three (λ k. budget rowC k + rowC .charge ≤ period rowC k) (lit≤ tt) (lit≤ tt) (lit≤ tt);
+  demand-exact = below-three (λ k. demandC k * period rowC k ≡ (budget rowC k + rowC .charge) * 6) refl refl refl;
+}) (lit≤ tt) (λ k b _. below-three (λ j. firstRelease rowC j < period rowC j) (lit≤ tt) (lit≤ tt) (lit≤ tt) k b) (freshSlots rowC 1) refl
+
+-- With charge 1 a request of 1 owes two ticks and one of 0 none; with first releases at ticks 1 and 2 nothing runs before, and a period of 5 begins at 2, 7, ..
+charged : Tasks
+charged = record { n = 2; periods = 4 ∷ 5 ∷ []; budgets = 1 ∷ 1 ∷ []; placement = 1 ∷ 1 ∷ []; charge = 1; firstReleases = 1 ∷ 2 ∷ [] }
+
+ticksJ : List (List ℕ)
+ticksJ = replicate 8 (1 ∷ 0 ∷ [])
+
+ticksK : List (List ℕ)
+ticksK = replicate 9 full
+
+silent-runs : runs (answers charged (freshSlots charged 1) ticksJ) ≡ 0 ∷ 1 ∷ 1 ∷ 0 ∷ 0 ∷ 1 ∷ 1 ∷ 0 ∷ []
+unfolding charged ticksJ full first firstFrom slotTest firstSlot owedFor release releaseAll chosen advanceAll stepped refusedTick tick freshSlot freshSlots row tab upTo
+silent-runs = refl
+
+late-runs : runs (answers charged (freshSlots charged 1) ticksK) ≡ 0 ∷ 1 ∷ 1 ∷ 2 ∷ 2 ∷ 1 ∷ 1 ∷ 2 ∷ 2 ∷ []
+unfolding charged ticksK full first firstFrom slotTest firstSlot owedFor release releaseAll chosen advanceAll stepped refusedTick tick freshSlot freshSlots row tab upTo
+late-runs = refl
+
+late-names : names charged 1 ticksK ≡ 0 ∷ 1 ∷ 1 ∷ 2 ∷ 2 ∷ 1 ∷ 1 ∷ 2 ∷ 2 ∷ []
+unfolding charged ticksK full owedFor book
+late-names = refl
+
+late-owed : owedIn charged ticksK 1 1 ≡ 2
+unfolding charged ticksK full
+late-owed = refl

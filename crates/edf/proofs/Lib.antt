@@ -1,13 +1,11 @@
 pub mod SlotLaws
-pub mod Machine
-pub mod Ledger
+pub mod SlotSteps
 pub mod DemandLaws
 pub mod EarliestLaws
 pub mod ChoiceLaws
 pub mod StepLaws
 pub mod CountLaws
 pub mod FollowLaws
-pub mod GeneralLaws
-pub mod GuaranteeLaws
 pub mod NamingLaws
+pub mod GuaranteeLaws
 pub mod Examples

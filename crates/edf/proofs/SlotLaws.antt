@@ -9,27 +9,27 @@ use lib.ListN.{length}
 use Rattle.numbers.specs.Rows.{tab, upTo, row}
 use Rattle.numbers.specs.Sums.{sumTo}
 use Rattle.numbers.proofs.RowLaws.{upTo-below, upTo-above}
-use Rattle.numbers.proofs.SumLaws.{sumTo-cong}
+use Rattle.numbers.proofs.SumLaws.{sumTo-cong, sumTo-front, sumTo-above}
 use Rattle.edf.specs.declared.Slot.{Slot}
 use Rattle.edf.specs.Slots.{emptySlot, slotAt, eachFrom}
 
 -- each slot has the property
-abbrev pub All : (Slot → Type 0) → List Slot → Type 0
-All P [] = Unit {0}
-All P (s ∷ slots) = P s × All P slots
+abbrev pub AllSlots : (Slot → Type 0) → List Slot → Type 0
+AllSlots P [] = Unit {0}
+AllSlots P (s ∷ slots) = P s × AllSlots P slots
 
-pub all-at : (P : Slot → Type 0) → P emptySlot → (slots : List Slot) (i : ℕ) → All P slots → P (slotAt slots i)
+pub all-at : (P : Slot → Type 0) → P emptySlot → (slots : List Slot) (i : ℕ) → AllSlots P slots → P (slotAt slots i)
 all-at P e [] i a = e
 all-at P e (s ∷ slots) zero a = a .0
 all-at P e (s ∷ slots) (suc i) a = all-at P e slots i (a .1)
 
-pub all-tab : (P : Slot → Type 0) (w : ℕ) (f : ℕ → Slot) → ((k : ℕ) → P (f k)) → All P (tab w f)
+pub all-tab : (P : Slot → Type 0) (w : ℕ) (f : ℕ → Slot) → ((k : ℕ) → P (f k)) → AllSlots P (tab w f)
 unfolding tab
 all-tab P zero f h = tt
 all-tab P (suc w) f h = (h 0, all-tab P w (λ k. f (suc k)) (λ k. h (suc k)))
 
 -- what holds of the entries of a row and of the empty slot
-pub all-row : (P : Slot → Type 0) (n : ℕ) (f : ℕ → Slot) → P emptySlot → ((k : ℕ) → k < n → P (f k)) → All P (row emptySlot n f)
+pub all-row : (P : Slot → Type 0) (n : ℕ) (f : ℕ → Slot) → P emptySlot → ((k : ℕ) → k < n → P (f k)) → AllSlots P (row emptySlot n f)
 unfolding row
 all-row P n f e h = all-tab P 16 (upTo emptySlot n f) (λ k. at k (decLt k n))
   where
@@ -39,7 +39,7 @@ all-row P n f e h = all-tab P 16 (upTo emptySlot n f) (λ k. at k (decLt k n))
 
 -- A change of each slot.
 module _ (f : ℕ → Slot → Slot) where
-  pub all-each : (P Q : Slot → Type 0) → ((k : ℕ) (s : Slot) → P s → Q (f k s)) → (k : ℕ) (slots : List Slot) → All P slots → All Q (eachFrom k f slots)
+  pub all-each : (P Q : Slot → Type 0) → ((k : ℕ) (s : Slot) → P s → Q (f k s)) → (k : ℕ) (slots : List Slot) → AllSlots P slots → AllSlots Q (eachFrom k f slots)
   all-each P Q h k [] a = tt
   all-each P Q h k (s ∷ slots) a = (h k s (a .0), all-each P Q h (suc k) slots (a .1))
 
@@ -58,41 +58,31 @@ each-each f g k [] = refl
 each-each f g k (s ∷ slots) = ap (λ (l : List Slot). g k (f k s) ∷ l) (each-each f g (suc k) slots)
 
 -- A sum over slots.
-abbrev pub total : (Slot → ℕ) → List Slot → ℕ
-total g [] = 0
-total g (s ∷ slots) = g s + total g slots
+abbrev pub totalOver : (Slot → ℕ) → List Slot → ℕ
+totalOver g [] = 0
+totalOver g (s ∷ slots) = g s + totalOver g slots
 
-pub total-most : (P : Slot → Type 0) (g h : Slot → ℕ) → ((s : Slot) → P s → g s ≤ h s) → (slots : List Slot) → All P slots → total g slots ≤ total h slots
+pub total-most : (P : Slot → Type 0) (g h : Slot → ℕ) → ((s : Slot) → P s → g s ≤ h s) → (slots : List Slot) → AllSlots P slots → totalOver g slots ≤ totalOver h slots
 total-most P g h b [] a = zero-le
 total-most P g h b (s ∷ slots) a = add-le-add (b s (a .0)) (total-most P g h b slots (a .1))
 
 module _ (f : ℕ → Slot → Slot) (g h : Slot → ℕ) where
-  pub total-each : (P : Slot → Type 0) → ((k : ℕ) (s : Slot) → P s → g (f k s) ≡ h s) → (k : ℕ) (slots : List Slot) → All P slots → total g (eachFrom k f slots) ≡ total h slots
+  pub total-each : (P : Slot → Type 0) → ((k : ℕ) (s : Slot) → P s → g (f k s) ≡ h s) → (k : ℕ) (slots : List Slot) → AllSlots P slots → totalOver g (eachFrom k f slots) ≡ totalOver h slots
   total-each P b k [] a = refl
   total-each P b k (s ∷ slots) a = ap₂ _+_ (b k s (a .0)) (total-each P b (suc k) slots (a .1))
 
-  pub total-each-most : (P : Slot → Type 0) → ((k : ℕ) (s : Slot) → P s → g (f k s) ≤ h s) → (k : ℕ) (slots : List Slot) → All P slots
-      → total g (eachFrom k f slots) ≤ total h slots
+  pub total-each-most : (P : Slot → Type 0) → ((k : ℕ) (s : Slot) → P s → g (f k s) ≤ h s) → (k : ℕ) (slots : List Slot) → AllSlots P slots
+      → totalOver g (eachFrom k f slots) ≤ totalOver h slots
   total-each-most P b k [] a = zero-le
   total-each-most P b k (s ∷ slots) a = add-le-add (b k s (a .0)) (total-each-most P b (suc k) slots (a .1))
 
 -- The sum over a row is the sum over its entries, where the empty slot has none.
-sumTo-front : (f : ℕ → ℕ) (n : ℕ) → sumTo f (suc n) ≡ f 0 + sumTo (λ k. f (suc k)) n
-unfolding sumTo
-sumTo-front f zero = refl
-sumTo-front f (suc n) = omega (arith, sumTo-front f n)
-
-sumTo-above : (f : ℕ → ℕ) (n w : ℕ) → ((k : ℕ) → n ≤ k → f k ≡ 0) → sumTo f (n + w) ≡ sumTo f n
-unfolding sumTo
-sumTo-above f n zero h = ap (sumTo f) (add-zero n)
-sumTo-above f n (suc w) h = ap (sumTo f) (add-suc n w) ∙ omega (arith, h (n + w) (omega arith), sumTo-above f n w h)
-
-total-tab : (g : Slot → ℕ) (w : ℕ) (f : ℕ → Slot) → total g (tab w f) ≡ sumTo (λ k. g (f k)) w
+total-tab : (g : Slot → ℕ) (w : ℕ) (f : ℕ → Slot) → totalOver g (tab w f) ≡ sumTo (λ k. g (f k)) w
 unfolding tab sumTo
 total-tab g zero f = refl
 total-tab g (suc w) f = ap (λ z. g (f 0) + z) (total-tab g w (λ k. f (suc k))) ∙ sym (sumTo-front (λ k. g (f k)) w)
 
-pub total-row : (g : Slot → ℕ) (n : ℕ) (f : ℕ → Slot) → g emptySlot ≡ 0 → n ≤ 16 → total g (row emptySlot n f) ≡ sumTo (λ k. g (f k)) n
+pub total-row : (g : Slot → ℕ) (n : ℕ) (f : ℕ → Slot) → g emptySlot ≡ 0 → n ≤ 16 → totalOver g (row emptySlot n f) ≡ sumTo (λ k. g (f k)) n
 unfolding row
 total-row g n f e h =
     let w : n + (16 - n) ≡ 16 = omega arith in

@@ -40,3 +40,10 @@ pub record IsEarliest (cs : List Claim) (c : Claim) : Type 0 where
 -- j names the earliest of some claims: it is the task of such a claim, or 0 if there is no claim
 abbrev pub NamesEarliest : List Claim → ℕ → Type 0
 NamesEarliest cs j = ((cs ≡ []) × (j ≡ 0)) ⊎ ((c : Claim) × IsEarliest cs c × (j ≡ c .task))
+
+-- and so do the tasks of a list at every tick, each of the claims made there
+abbrev pub EachNamesEarliest : List (List Claim) → List ℕ → Type 0
+EachNamesEarliest [] [] = Unit {0}
+EachNamesEarliest [] (j ∷ js) = ⊥
+EachNamesEarliest (cs ∷ css) [] = ⊥
+EachNamesEarliest (cs ∷ css) (j ∷ js) = NamesEarliest cs j × EachNamesEarliest css js

@@ -1,22 +1,21 @@
--- One tick of a core: the paper's three steps and its refusal 12; and a list of ticks.
-use Prim.Native.Nat.{ℕ, suc, _-_, _≤_, _<_, min}
-use mathlib.Core.Path.{_≡_}
+-- One tick of a core on a board with a switch charge (0 in the base): the paper's three steps and its refusal 12; and a list of ticks.
+use Prim.Native.Nat.{ℕ, suc, _+_, _-_, min}
 use mathlib.Core.Bool.{Bool, cond, _&&_}
 use mathlib.Core.List.{List, [], _∷_}
 use lib.Dec.{ltb, eqb}
 use lib.ListN.{getD}
 use Rattle.edf.specs.declared.Slot.{Slot}
 use Rattle.edf.specs.declared.Claim.{Claim}
-use Rattle.edf.specs.Slots.{occupied, slotAt, firstSlot, each, firstWrong}
+use Rattle.edf.specs.Slots.{occupied, firstSlot, each, firstWrong}
 use Rattle.edf.specs.Earliest.{consIf, earliest}
 
 -- the request of task number k among the sixteen of a tick
 abbrev pub request : List ℕ → ℕ → ℕ
 request requests k = getD requests (k - 1) 0
 
--- what a task is owed for a period: the smaller of its request and its budget
-abbrev pub owedFor : ℕ → ℕ → ℕ
-owedFor budget asked = min asked budget
+-- what a task is owed for a period: the smaller of its request and its budget, and the charge if it asks for any
+unfoldable pub owedFor : ℕ → ℕ → ℕ → ℕ
+owedFor charge budget asked = min asked budget + cond (eqb asked 0) 0 charge
 
 -- Step 1. An occupied slot whose ticks until release are 0 is released; if it still owes ticks, it is late.
 abbrev pub due : Slot → Bool
@@ -33,14 +32,15 @@ firstLate slots = firstSlot late slots
 abbrev pub released : Slot → ℕ → Slot
 released s owed = record { period = s .period; budget = s .budget; until = s .period; remaining = owed }
 
-abbrev pub releaseSlot : ℕ → Slot → Slot
-releaseSlot asked s = cond (due s) (released s (owedFor (s .budget) asked)) s
+module _ (charge : ℕ) where
+  abbrev pub releaseSlot : ℕ → Slot → Slot
+  releaseSlot asked s = cond (due s) (released s (owedFor charge (s .budget) asked)) s
 
-unfoldable pub release : List ℕ → ℕ → Slot → Slot
-release requests k s = releaseSlot (request requests k) s
+  unfoldable pub release : List ℕ → ℕ → Slot → Slot
+  release requests k s = releaseSlot (request requests k) s
 
-unfoldable pub releaseAll : List ℕ → List Slot → List Slot
-releaseAll requests slots = each (release requests) slots
+  unfoldable pub releaseAll : List ℕ → List Slot → List Slot
+  releaseAll requests slots = each (release requests) slots
 
 -- Step 2. Among the slots that owe ticks, the one with the fewest ticks until release runs, and owes one less.
 abbrev pub claimsFrom : ℕ → List Slot → List Claim
@@ -50,12 +50,6 @@ claimsFrom k (s ∷ slots) = consIf (ltb 0 (s .remaining)) (record { task = k; d
 unfoldable pub chosen : List Slot → ℕ
 chosen slots = earliest (claimsFrom 1 slots)
 
--- what that asks of the slot at i: it owes ticks, no slot that owes has fewer until release, and none with as few has a lower number
-pub record RunsFirst (slots : List Slot) (i : ℕ) : Type 0 where
-  pub owes : 0 < slotAt slots i .remaining
-  pub fewest : (j : ℕ) → 0 < slotAt slots j .remaining → slotAt slots i .until ≤ slotAt slots j .until
-  pub lowest : (j : ℕ) → 0 < slotAt slots j .remaining → slotAt slots j .until ≡ slotAt slots i .until → i ≤ j
-
 -- the slot that runs owes one less
 abbrev pub ran : Slot → Slot
 ran s = record { period = s .period; budget = s .budget; until = s .until; remaining = s .remaining - 1 }
@@ -64,38 +58,39 @@ abbrev pub run : ℕ → ℕ → Slot → Slot
 run task k s = cond (eqb k task) (ran s) s
 
 -- Step 3. Every occupied slot's ticks until release fall by one.
-abbrev pub passed : Slot → Slot
-passed s = record { period = s .period; budget = s .budget; until = s .until - 1; remaining = s .remaining }
+abbrev pub advanced : Slot → Slot
+advanced s = record { period = s .period; budget = s .budget; until = s .until - 1; remaining = s .remaining }
 
-abbrev pub pass : ℕ → Slot → Slot
-pass k s = cond (occupied s) (passed s) s
+abbrev pub advance : ℕ → Slot → Slot
+advance k s = cond (occupied s) (advanced s) s
 
 -- steps 2 and 3, where task number `task` runs
-unfoldable pub passAll : ℕ → List Slot → List Slot
-passAll task slots = each pass (each (run task) slots)
+unfoldable pub advanceAll : ℕ → List Slot → List Slot
+advanceAll task slots = each advance (each (run task) slots)
 
 -- What a tick hands back: the number and place of a refusal, 0 and 0 if there is none; the next record; the task run, 0 for idle; the late task, 0 for none.
-pub record Answer : Type 0 where
+pub record TickAnswer : Type 0 where
   pub refusal : ℕ
   pub place : ℕ
   pub slots : List Slot
   pub run : ℕ
   pub late : ℕ
 
--- the three steps in order
-unfoldable pub stepped : List Slot → List ℕ → Answer
-stepped slots requests =
-    let ready : List Slot = releaseAll requests slots in
-    record { refusal = 0; place = 0; slots = passAll (chosen ready) ready; run = chosen ready; late = firstLate slots }
-
 -- number 12, with the record as it was
-unfoldable pub refused : List Slot → ℕ → Answer
-refused slots place = record { refusal = 12; place = place; slots = slots; run = 0; late = 0 }
+unfoldable pub refusedTick : List Slot → ℕ → TickAnswer
+refusedTick slots place = record { refusal = 12; place = place; slots = slots; run = 0; late = 0 }
 
-unfoldable pub tick : List Slot → List ℕ → Answer
-tick slots requests = cond (eqb (firstWrong slots) 0) (stepped slots requests) (refused slots (firstWrong slots))
+module _ (charge : ℕ) where
+  -- the three steps in order
+  unfoldable pub stepped : List Slot → List ℕ → TickAnswer
+  stepped slots requests =
+      let ready : List Slot = releaseAll charge requests slots in
+      record { refusal = 0; place = 0; slots = advanceAll (chosen ready) ready; run = chosen ready; late = firstLate slots }
 
--- A list of ticks, the first on the given record and each later one on the record that the tick before handed back.
-abbrev pub ticked : List Slot → List (List ℕ) → List Answer
-ticked slots [] = []
-ticked slots (requests ∷ rest) = tick slots requests ∷ ticked (tick slots requests .slots) rest
+  unfoldable pub tick : List Slot → List ℕ → TickAnswer
+  tick slots requests = cond (eqb (firstWrong charge slots) 0) (stepped slots requests) (refusedTick slots (firstWrong charge slots))
+
+  -- A list of ticks, the first on the given record and each later one on the record that the tick before handed back.
+  abbrev pub ticked : List Slot → List (List ℕ) → List TickAnswer
+  ticked slots [] = []
+  ticked slots (requests ∷ rest) = tick slots requests ∷ ticked (tick slots requests .slots) rest

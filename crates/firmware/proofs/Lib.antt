@@ -1,2 +1,2 @@
 pub mod FrontLaws
-pub mod EntryLaws
+pub mod CallLaws

@@ -1,37 +1,19 @@
 // The plain entry by which the controller's C firmware calls the planner.
 ghost use mathlib.Core.Path.{_≡_};
-ghost use Prim.Native.Nat.{_≤_, _<_};
+ghost use Prim.Native.Nat.{_≤_};
 ghost use mathlib.Core.List.{_++_};
 ghost use lib.ListN.{length, take, drop};
-ghost use Rattle.taskset.specs.Fields.{taskCount};
-ghost use Rattle.firmware.specs.Entry.{bufferTest, entryOutcome, codeOf, codeFor, bufferAfter};
+ghost use Rattle.firmware.specs.Call.{bufferTest, codeOf, codeFor, bufferAfter};
 ghost use Rattle.firmware.specs.Service.{Answers, Keeps};
 use planner::Verdict;
 use refusal::Cause;
 use refusal::Outcome;
 
-// The number of tasks that a table names; 0 where it has no bytes.
-fn task_count(table: &[u8]) -> usize
-    ensures { λ r. ⌜ r ≡ taskCount (now (table .entry)) ⌝ }
+// Number 8: the plan buffer is shorter than n.
+fn buffer_test(n: usize, room: usize) -> Outcome
+    ensures { λ r. ⌜ r ≡ bufferTest n room ⌝ }
 {
-    wire::size(wire::byte(table, 0))
-}
-
-// Number 8.
-fn buffer_test(table: &[u8], room: usize) -> Outcome
-    ensures { λ r. ⌜ r ≡ bufferTest (now (table .entry)) room ⌝ }
-{
-    refusal::refuse_if(room < task_count(table), Cause::Buffer)
-}
-
-// Numbers 1 to 7, then 8.
-fn entry_tests(table: &[u8], room: usize) -> Outcome
-    ensures { λ r. ⌜ r ≡ entryOutcome (now (table .entry)) room ⌝ }
-{
-    let reading = taskset::read_table(table);
-    let outcome = reading.outcome;
-    let fits = buffer_test(table, room);
-    refusal::then(outcome, fits)
+    refusal::refuse_if(room < n, Cause::Buffer)
 }
 
 // The number that the firmware is given for a verdict.
@@ -65,15 +47,20 @@ pub extern "C" fn millplan_plan(table: &[u8], limit: u32, plan: &mut [u8]) -> u3
     ensures code { λ r. ⌜ r ≡ codeFor (now (table .entry)) limit (length (now (plan .entry))) ⌝ }
     ensures buffer { λ r. ⌜ now (plan .exit) ≡ bufferAfter (now (table .entry)) limit (now (plan .entry)) ⌝ }
     ensures answers { λ r. ⌜ Answers (now (table .entry)) (now (plan .entry)) r (now (plan .exit)) ⌝ }
-    ensures keeps { λ r. ⌜ (r ≤ 2 → Keeps (now (table .entry)) limit r (now (plan .exit))) ⌝ }
+    ensures keeps { λ r. ⌜ (r ≤ 2 → Keeps (now (table .entry)) (now (plan .entry)) limit r (now (plan .exit))) ⌝ }
 {
-    let outcome = entry_tests(table, plan.len());
+    let reading = stored::read_table(table);
+    let tasks = reading.tasks;
+    let n = tasks.fields.n;
+    let read = reading.outcome;
+    let fits = buffer_test(n, plan.len());
+    let outcome = refusal::then(read, fits);
     match outcome {
         Outcome::Refused(cause) => code(Verdict::Refused(cause)),
         Outcome::Accepted => {
-            let answer = planner::plan(table, limit);
+            let answer = planner::plan_tasks(tasks, limit);
             let cores = answer.placement;
-            write_front(plan, cores, task_count(table));
+            write_front(plan, cores, n);
             let verdict = answer.verdict;
             code(verdict)
         }

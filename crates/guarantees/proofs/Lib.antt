@@ -1,3 +1,4 @@
+pub mod LoadLaws
 pub mod DemandLaws
 pub mod ChainLaws
 pub mod RowLaws

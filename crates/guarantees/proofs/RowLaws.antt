@@ -1,29 +1,33 @@
--- The worked rows hold, by computation over the public definitions.
+-- Every row holds, by computation.
 use mathlib.Core.Path.{refl}
-use Rattle.numbers.specs.First.{first, firstFrom}
-use Rattle.numbers.specs.Rows.{row, tab, upTo}
-use Rattle.numbers.specs.Sums.{sumOver, sumTo}
+use Rattle.numbers.specs.First.{firstFrom, first}
+use Rattle.numbers.specs.Loads.{demandOn}
 use Rattle.numbers.specs.Multiples.{euclid, gcd, lcm, lcms}
+use Rattle.numbers.specs.Reorder.{position, scatter}
+use Rattle.numbers.specs.Rows.{tab, upTo, row}
 use Rattle.numbers.specs.Sorting.{insert, sorted}
+use Rattle.numbers.specs.Sums.{sumOver}
 use Rattle.refusal.specs.Tests.{_then_, refuseIf, refuseAt, inOrder}
 use Rattle.wire.specs.Bytes.{wordAt}
-use Rattle.taskset.specs.Fields.{fieldsOf}
 use Rattle.taskset.specs.Demands.{multipleTo, hyperperiodOf, demandOf}
-use Rattle.taskset.specs.Refusals.{badPeriod, badBudget, passes, outcomeOf}
-use Rattle.taskset.specs.Reading.{taskSetOf, acceptedWith, answerOf as readingAnswer, readingOf}
+use Rattle.taskset.specs.Tests.{badPeriod, badBudget, exceeds}
+use Rattle.taskset.specs.Reading.{taskSetOf, acceptedReading, readingBy}
+use Rattle.stored.specs.Form.{fieldsOf}
+use Rattle.stored.specs.Tests.{tableOutcome, readingOf}
 use Rattle.planning.specs.Order.{precedes}
-use Rattle.allocation.specs.Placement as placement
+use Rattle.allocation.specs.Rule.{tried}
 use Rattle.allocation.specs.Walk.{upFrom, choices, stepInto, storedAfter, boundAfter, entered, tryAll, visit, trace, stored, answer}
-use Rattle.allocation.specs.TableOrder.{position, scatter, tableAnswer}
-use Rattle.planner.specs.Problem.{problemOf, orderOf}
-use Rattle.planner.specs.Plan.{verdictOf, planned, planFor, refusedFor, answerOf, planOf}
-use Rattle.edf.specs.Slots.{testAt, firstSlot}
-use Rattle.edf.specs.Tick.{release, releaseAll, chosen, passAll, stepped, refused, tick}
-use Rattle.edf.specs.Fresh.{freshSlot, freshSlots, demandOn, load}
-use Rattle.runner.specs.Parts.{aboveAt}
-use Rattle.runner.specs.Starts.{placementTest, coreTest, loadTest, refusedStart, startWith, startOf}
-use Rattle.guarantees.specs.Rows.{rows, AllHold}
+use Rattle.allocation.specs.TableOrder.{tableAnswer}
+use Rattle.planner.specs.Problem.{tableProblem, orderOf}
+use Rattle.planner.specs.Plan.{verdictOf, allocationOf, planFor, refusedPlan, planBy, planOf, verdictOutcome}
+use Rattle.edf.specs.Slots.{slotTest, firstSlot}
+use Rattle.edf.specs.Tick.{owedFor, release, releaseAll, chosen, advanceAll, stepped, refusedTick, tick}
+use Rattle.edf.specs.Fresh.{freshSlot, freshSlots}
+use Rattle.start.specs.Starts.{loadOf, aboveAt, refusedStart, startBy, placingOutcome, startOutcome, startOf}
+use Rattle.text.specs.Decimal.{front, digitsBy, decimal, field}
+use Rattle.report.specs.Output.{refusalLine, sizesLine, taskLine, taskLines, verdictWord, summaryLine, planLines, linesBy, linesFor, outputOf}
+use Rattle.guarantees.specs.Rows.{more, rows, AllHold}
 
 pub rows-hold : AllHold rows
-unfolding rows first firstFrom row tab upTo sumOver sumTo euclid gcd lcm lcms insert sorted _then_ refuseIf refuseAt inOrder wordAt fieldsOf multipleTo hyperperiodOf demandOf badPeriod badBudget passes outcomeOf taskSetOf acceptedWith readingAnswer readingOf precedes placement.demandOn upFrom choices stepInto storedAfter boundAfter entered tryAll visit trace stored answer position scatter tableAnswer problemOf orderOf verdictOf planned planFor refusedFor answerOf planOf testAt firstSlot release releaseAll chosen passAll stepped refused tick freshSlot freshSlots demandOn load aboveAt placementTest coreTest loadTest refusedStart startWith startOf
-rows-hold = (refl, (refl, (refl, (refl, (refl, (refl, (refl, (refl, (refl, (refl, ((refl, refl, refl), tt)))))))))))
+unfolding rows more first firstFrom row tab upTo sumOver euclid gcd lcm lcms insert sorted position scatter demandOn _then_ refuseIf refuseAt inOrder wordAt fieldsOf multipleTo hyperperiodOf demandOf badPeriod badBudget exceeds tableOutcome taskSetOf acceptedReading readingBy readingOf precedes tried upFrom choices stepInto storedAfter boundAfter entered tryAll visit trace stored answer tableAnswer tableProblem orderOf verdictOf allocationOf planFor refusedPlan planBy planOf verdictOutcome slotTest firstSlot owedFor release releaseAll chosen advanceAll stepped refusedTick tick freshSlot freshSlots loadOf aboveAt refusedStart startBy placingOutcome startOutcome startOf front digitsBy decimal field refusalLine sizesLine taskLine taskLines verdictWord summaryLine planLines linesBy linesFor outputOf
+rows-hold = (refl, (refl, (refl, (refl, (refl, (refl, (refl, (refl, (refl, (refl, ((refl, refl), (refl, (refl, (refl, (refl, (refl, (refl, (refl, (refl, (refl, (refl, (refl, (refl, (refl, tt))))))))))))))))))))))))

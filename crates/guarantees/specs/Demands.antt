@@ -1,77 +1,74 @@
--- The three demands, each sentence a field of its own, over the definitions that the public contracts equal.
-use Prim.Native.Nat.{ℕ, _+_, _*_, _≤_, _<_}
+-- The three demands over the definitions that the public contracts equal. A promise that stands below is cited, not told again.
+use Prim.Native.Nat.{ℕ, _≤_, _<_}
 use mathlib.Core.Path.{_≡_}
-use mathlib.Core.List.{List, map}
+use mathlib.Core.Bool.{cond}
+use mathlib.Core.List.{List}
 use mathlib.Core.Logic.{_↔_, _≢_}
-use lib.ListN.{length, replicate}
+use lib.Dec.{eqb}
+use lib.ListN.{length}
 use Rattle.numbers.specs.Rows.{entry}
-use Rattle.refusal.specs.Faults.{FirstFault}
-use Rattle.refusal.specs.declared.Cause.{Cause}
-use Rattle.refusal.specs.declared.Outcome.the-variants.{Accepted, Refused}
-use Rattle.taskset.specs.Fields.{fieldsOf, taskCount, coreCount}
-use Rattle.taskset.specs.Demands.{hyperperiodOf}
-use Rattle.taskset.specs.Reading.{taskSetOf}
-use Rattle.taskset.specs.Limits.{Valid, Fault}
-use Rattle.allocation.specs.Placement.{Feasible, Full, load}
-use Rattle.allocation.specs.TableOrder.{BestPlan}
-use Rattle.planner.specs.Problem.{problemOf, orderOf}
-use Rattle.planner.specs.Plan.{planOf, outcomeBy}
-use Rattle.planner.specs.Promise.{walkLength, choicesOf}
-use Rattle.planner.specs.declared.Verdict.the-variants.{All, Spent}
-use Rattle.firmware.specs.Entry.{codeFor, bufferAfter}
-use Rattle.edf.specs.Fresh.{period}
-use Rattle.edf.specs.Book.{book, names}
-use Rattle.edf.specs.Guarantee.{answers, runs, receivedIn, owedIn}
-use Rattle.runner.specs.Starts.{startOf, loadOf, placedTasks}
+use Rattle.numbers.specs.Sums.{sumTo}
+use Rattle.refusal.specs.Causes.{numberIn}
+use Rattle.refusal.specs.Conditions.{First, Gives, Decides}
+use Rattle.refusal.specs.declared.Outcome.the-variants.{Accepted}
+use Rattle.taskset.specs.Demands.{hyperperiodOf, demandOf}
+use Rattle.taskset.specs.Limits.{Reads}
+use Rattle.stored.specs.Form.{fieldsOf, taskCount, coreCount}
+use Rattle.stored.specs.Tests.{readingOf}
+use Rattle.stored.specs.Limits.{Valid, conditions}
+use Rattle.planner.specs.Plan.{planOf, verdictOutcome}
+use Rattle.planner.specs.Promise.{Promise, Plans}
+use Rattle.firmware.specs.Call.{codeFor, bufferAfter}
+use Rattle.firmware.specs.Service.{Answers}
+use Rattle.edf.specs.Guarantee.{TickGuarantee}
+use Rattle.edf.specs.Tick.{tick as tickOf}
+use Rattle.runner.specs.declared.Core.{Core}
+use Rattle.runner.specs.declared.Ticked.{Ticked}
+use Rattle.runner.specs.Answers.{tickAnswer}
+use Rattle.runner.specs.Records.{ValidRecord, recordConditions}
+use Rattle.runner.specs.Plain.{PlainRefusal}
+use Rattle.start.specs.Starts.{placedTasks, startOf}
+use Rattle.start.specs.Limits.{ValidStart, startConditions, Starts}
 
--- Demand 1, of the planner's call.
+-- Demand 1. The first two sentences are of the planner; the second is said of every other call as well.
 pub record DemandOne : Type 0 where
   -- Every planner call within its stated limits is accepted and gets a plan, or the plain statement that the step limit ran out.
-  pub within : (table : List ℕ) (limit : ℕ) → Valid table → outcomeBy (planOf table limit .verdict) ≡ Accepted
-  -- A call outside its limits is refused with the number and place that the paper gives: those of its first fault, and never otherwise.
-  pub outside : (table : List ℕ) (limit : ℕ) (cause : Cause) → (outcomeBy (planOf table limit .verdict) ≡ Refused cause) ↔ FirstFault (Fault table) cause
-  -- And lent memory then holds what it held before: a table is lent to be read, and the firmware's plan buffer is unchanged.
+  pub within : (table : List ℕ) (limit : ℕ) → Valid table → Gives (verdictOutcome (planOf table limit .verdict)) 0 0
+  -- A call outside its limits is refused with the number and place that the paper gives: those of the first condition that holds, and never otherwise.
+  pub outside : (table : List ℕ) (limit number place : ℕ) → 1 ≤ number
+      → Gives (verdictOutcome (planOf table limit .verdict)) number place ↔ First (conditions table) number place
+  -- So are the calls of the reader, of a fresh core, of a tick (its answer r is any that the definition gives) and of the firmware.
+  pub reader : (table : List ℕ) → Decides (Valid table) (conditions table) (readingOf table .outcome)
+  pub fresh : (table placement : List ℕ) (core : ℕ) → Decides (ValidStart table placement core) (startConditions table placement core) (startOf table placement core .outcome)
+  pub tick : (core : Core) (requests : List ℕ) (r : Ticked) → tickAnswer r ≡ tickOf 0 (core .slots) requests
+      → Decides (ValidRecord 0 (core .slots)) (recordConditions 0 (core .slots)) (r .outcome)
+  pub entry : (table buffer : List ℕ) (limit : ℕ) → Answers table buffer (codeFor table limit (length buffer)) (bufferAfter table limit buffer)
+  -- A refused reading, plan or fresh core is zeros, each with its own promise; a refused tick hands back its record, run 0 and late 0.
+  pub reads : (table : List ℕ) → Reads (readingOf table)
+  pub plans : (table : List ℕ) (limit : ℕ) → Plans table limit (planOf table limit)
+  pub starts : (table placement : List ℕ) (core : ℕ) → Starts table placement core (startOf table placement core)
+  pub ticks : (core : Core) (requests : List ℕ) (r : Ticked) → tickAnswer r ≡ tickOf 0 (core .slots) requests → numberIn (r .outcome) ≢ 0 → PlainRefusal core r
+  -- And lent memory then holds what it held before: tables and placements are lent to be read, and the firmware's plan buffer is unchanged.
   pub unchanged : (table buffer : List ℕ) (limit : ℕ) → 100 ≤ codeFor table limit (length buffer) → bufferAfter table limit buffer ≡ buffer
 
--- Demand 2, of a valid table and any step limit.
-pub record DemandTwo : Type 0 where
-  -- No plan puts an exact load above one on any core.
-  pub safe : (table : List ℕ) (limit : ℕ) → Valid table
-      → (core : ℕ) → 1 ≤ core → core ≤ coreCount table
-      → load (problemOf (fieldsOf table)) core (choicesOf (fieldsOf table) (planOf table limit)) ≤ hyperperiodOf (fieldsOf table)
-  -- Unless the step limit ran out, the plan is the best one: the least load is left out, the first in the stated order among equals,
-  pub best : (table : List ℕ) (limit : ℕ) → Valid table → planOf table limit .verdict ≢ Spent
-      → BestPlan (problemOf (fieldsOf table)) (orderOf (fieldsOf table)) (choicesOf (fieldsOf table) (planOf table limit))
-  -- and "all placed" is said if and only if a full placement exists.
-  pub all : (table : List ℕ) (limit : ℕ) → Valid table → planOf table limit .verdict ≢ Spent
-      → (planOf table limit .verdict ≡ All) ↔ ((q : List ℕ) × Feasible (problemOf (fieldsOf table)) q × Full q)
-  -- That the limit ran out is said only when the walk is longer than the limit, and always then.
-  pub spent : (table : List ℕ) (limit : ℕ) → Valid table → (planOf table limit .verdict ≡ Spent) ↔ (limit < walkLength (fieldsOf table))
+-- Demand 2 is the planner's promise, sentence by sentence, for every valid table and every step limit.
+abbrev pub DemandTwo : Type 0
+DemandTwo = (table : List ℕ) (limit : ℕ) → Valid table → Promise (fieldsOf table) limit (planOf table limit)
+
+-- the exact load that a placement puts on a core: the sum of the demands of the tasks whose entry is that core
+abbrev pub exactLoad : List ℕ → List ℕ → ℕ → ℕ
+exactLoad table placement core = sumTo (λ k. cond (eqb (entry placement k) core) (demandOf (fieldsOf table) k) 0) (taskCount table)
 
 -- A placement of a table: one entry for each task, a core of the table or 0.
 pub record ValidPlacement (table placement : List ℕ) : Type 0 where
   pub exact : length placement ≡ taskCount table
   pub entries : (k : ℕ) → k < taskCount table → entry placement k ≤ coreCount table
 
--- Demand 3, of a valid table and placement.
+-- Demand 3.
 pub record DemandThree : Type 0 where
-  -- A core of that table is accepted exactly when its exact load is at most one.
+  -- With a valid table and placement, a core of that table is accepted exactly when its exact load is at most one.
   pub accepted : (table placement : List ℕ) (core : ℕ) → Valid table → ValidPlacement table placement → 1 ≤ core → core ≤ coreCount table
-      → (startOf table placement core .outcome ≡ Accepted) ↔ (loadOf (taskSetOf (fieldsOf table)) placement core ≤ hyperperiodOf (fieldsOf table))
-  -- For every list of ticks from a fresh accepted core, whatever any task asks for at each of them: no tick is refused
-  pub none-refused : (table placement : List ℕ) (core : ℕ) → startOf table placement core .outcome ≡ Accepted → (ticks : List (List ℕ))
-      → map (λ a. a .refusal) (answers (placedTasks (fieldsOf table) placement) core ticks) ≡ replicate (length ticks) 0
-  -- or reports a late task,
-  pub none-late : (table placement : List ℕ) (core : ℕ) → startOf table placement core .outcome ≡ Accepted → (ticks : List (List ℕ))
-      → map (λ a. a .late) (answers (placedTasks (fieldsOf table) placement) core ticks) ≡ replicate (length ticks) 0
-  -- and each runs the task that earliest deadline first names.
-  pub earliest-first : (table placement : List ℕ) (core : ℕ) → startOf table placement core .outcome ≡ Accepted → (ticks : List (List ℕ))
-      → runs (answers (placedTasks (fieldsOf table) placement) core ticks) ≡ names 0 (book (placedTasks (fieldsOf table) placement) core) ticks
-  -- After the list, what a task on that core received in each of its complete periods is the smaller of its request and its time.
-  pub complete : (table placement : List ℕ) (core : ℕ) → startOf table placement core .outcome ≡ Accepted → (ticks : List (List ℕ))
-      → (k p : ℕ) → k < taskCount table → entry placement k ≡ core → (p + 1) * period (placedTasks (fieldsOf table) placement) k ≤ length ticks
-      → receivedIn (placedTasks (fieldsOf table) placement) core ticks k p ≡ owedIn (placedTasks (fieldsOf table) placement) ticks k p
-  -- Within an unfinished period it never exceeds that.
-  pub unfinished : (table placement : List ℕ) (core : ℕ) → startOf table placement core .outcome ≡ Accepted → (ticks : List (List ℕ))
-      → (k p : ℕ) → k < taskCount table → entry placement k ≡ core → p * period (placedTasks (fieldsOf table) placement) k < length ticks
-      → receivedIn (placedTasks (fieldsOf table) placement) core ticks k p ≤ owedIn (placedTasks (fieldsOf table) placement) ticks k p
+      → Gives (startOf table placement core .outcome) 0 0 ↔ (exactLoad table placement core ≤ hyperperiodOf (fieldsOf table))
+  -- For an accepted fresh core, every list of ticks from the record that the call returned has the tick guarantee, sentence by sentence.
+  pub ticks : (table placement : List ℕ) (core : ℕ) → startOf table placement core .outcome ≡ Accepted → (ticks : List (List ℕ))
+      → TickGuarantee (placedTasks (fieldsOf table) placement) core (startOf table placement core .core .slots) ticks

@@ -1,47 +1,43 @@
--- The paper's worked rows, as one list and one statement that goes down it.
-use Prim.Native.Nat.{ℕ, _+_, _/_, _%_}
+-- The paper's worked rows, and rows that each fix what no other does, as one list and one statement that goes down it.
+use Prim.Native.Nat.{ℕ}
+use Prim.Native.String.{String}
 use mathlib.Core.Path.{_≡_}
 use mathlib.Core.List.{List, [], _∷_, _++_}
 use lib.ListN.{length, replicate}
 use Rattle.numbers.specs.Rows.{row, entry}
-use Rattle.refusal.specs.Causes.{numberOf, placeOf}
-use Rattle.refusal.specs.declared.Cause.{Cause}
-use Rattle.refusal.specs.declared.Cause.the-variants.{Hyperperiod}
-use Rattle.taskset.specs.Reading.{readingOf}
-use Rattle.planner.specs.Plan.{planOf}
+use Rattle.refusal.specs.Conditions.{Gives}
+use Rattle.stored.specs.Form.{tableOf}
+use Rattle.stored.specs.Tests.{readingOf}
+use Rattle.planner.specs.Plan.{planOf, verdictOutcome}
 use Rattle.planner.specs.declared.Verdict.{Verdict}
-use Rattle.planner.specs.declared.Verdict.the-variants.{All, Short, Spent, Refused}
+use Rattle.planner.specs.declared.Verdict.the-variants.{All, Short, Spent}
+use Rattle.edf.specs.declared.Slot.{Slot}
+use Rattle.edf.specs.Slots.{emptySlot}
 use Rattle.edf.specs.Guarantee.{runs}
-use Rattle.edf.specs.Tick.{ticked}
-use Rattle.runner.specs.Starts.{startOf}
-
--- the four bytes of a number, lowest first
-abbrev pub word : ℕ → List ℕ
-word x = (x % 256) ∷ (x / 256 % 256) ∷ (x / 65536 % 256) ∷ (x / 16777216 % 256) ∷ []
-
-abbrev pub words : List ℕ → List ℕ
-words [] = []
-words (x ∷ xs) = word x ++ words xs
-
--- a stored table of m cores
-abbrev pub table : ℕ → List ℕ → List ℕ → List ℕ
-table m periods times = length periods ∷ m ∷ (words periods ++ words times)
+use Rattle.edf.specs.Tick.{tick, ticked}
+use Rattle.start.specs.Starts.{startOf}
+use Rattle.text.specs.Ascii.{ascii}
+use Rattle.report.specs.Output.{outputOf}
 
 -- A row: a table's hyperperiod; a plan with its verdict, cores, left-out demand and steps; a refusal with its number and place;
--- the tasks run by the ticks of a fresh core.
+-- the tasks run by the ticks of a fresh core; one tick of a given record, with the task run, the late task and the next record;
+-- the whole output of the program.
 pub data Row : Type 0 where
   frames : List ℕ → ℕ → Row
   plans : List ℕ → ℕ → Verdict → List ℕ → ℕ → ℕ → Row
-  refuses : List ℕ → ℕ → Cause → ℕ → ℕ → Row
+  refuses : List ℕ → ℕ → ℕ → ℕ → Row
   ticks : List ℕ → List ℕ → ℕ → List (List ℕ) → List ℕ → Row
+  tickOnce : List Slot → List ℕ → ℕ → ℕ → List Slot → Row
+  prints : List ℕ → String → Row
 
 abbrev pub Holds : Row → Type 0
 Holds (frames bytes hyperperiod) = readingOf bytes .tasks .hyperperiod ≡ hyperperiod
 Holds (plans bytes limit verdict cores rejected steps) =
     planOf bytes limit ≡ record { verdict = verdict; placement = row 0 (length cores) (entry cores); rejected = rejected; steps = steps }
-Holds (refuses bytes limit cause number place) =
-    (planOf bytes limit .verdict ≡ Refused cause) × (numberOf cause ≡ number) × (placeOf cause ≡ place)
-Holds (ticks bytes placement core requests ran) = runs (ticked (startOf bytes placement core .core .slots) requests) ≡ ran
+Holds (refuses bytes limit number place) = Gives (verdictOutcome (planOf bytes limit .verdict)) number place
+Holds (ticks bytes placement core requests ran) = runs (ticked 0 (startOf bytes placement core .core .slots) requests) ≡ ran
+Holds (tickOnce slots requests run late next) = tick 0 slots requests ≡ record { refusal = 0; place = 0; slots = next; run = run; late = late }
+Holds (prints bytes output) = outputOf bytes ≡ ascii output
 
 -- every row of a list holds
 abbrev pub AllHold : List Row → Type 0
@@ -50,10 +46,10 @@ AllHold (r ∷ rs) = Holds r × AllHold rs
 
 -- the table of the listing, and that of row c
 abbrev pub listing : List ℕ
-listing = table 1 (10 ∷ 10 ∷ 10 ∷ []) (7 ∷ 6 ∷ 4 ∷ [])
+listing = tableOf 1 (10 ∷ 10 ∷ 10 ∷ []) (7 ∷ 6 ∷ 4 ∷ [])
 
 abbrev pub rowC : List ℕ
-rowC = table 1 (2 ∷ 3 ∷ 6 ∷ []) (1 ∷ 1 ∷ 1 ∷ [])
+rowC = tableOf 1 (2 ∷ 3 ∷ 6 ∷ []) (1 ∷ 1 ∷ 1 ∷ [])
 
 -- sixteen requests: full ones, and the same with none from task 1
 abbrev pub full : List ℕ
@@ -62,18 +58,49 @@ full = replicate 16 4294967295
 abbrev pub firstSilent : List ℕ
 firstSilent = 0 ∷ replicate 15 4294967295
 
+-- a slot, and a record with some in front
+abbrev pub slot : ℕ → ℕ → ℕ → ℕ → Slot
+slot period budget until remaining = record { period = period; budget = budget; until = until; remaining = remaining }
+
+abbrev pub front : List Slot → List Slot
+front slots = slots ++ replicate 13 emptySlot
+
+-- Of two tasks of equal weight the lower number is placed.
+-- The excess counts: what two cores cannot hold ends the walk at the first placement that leaves out no more, whether a core is full or shared.
+-- A spent walk returns the last placement that it stored: here the second one, at step 10; the first, at step 5, leaves out 15.
+-- A task that asks for less than its time gets what it asked for.
+-- The listing, rows d and b, row k and the refusals of row l, and no byte, as the program prints them.
+-- Slots 2 and 3 are late: the lower is reported, the rest is dropped, and the one that is due sooner runs.
+unfoldable pub more : List Row
+more =
+    plans (tableOf 1 (10 ∷ 10 ∷ []) (6 ∷ 6 ∷ [])) 1000000 Short (1 ∷ 0 ∷ []) 6 2
+    ∷ plans (tableOf 2 (10 ∷ 10 ∷ 10 ∷ []) (10 ∷ 10 ∷ 1 ∷ [])) 1000000 Short (1 ∷ 2 ∷ 0 ∷ []) 1 3
+    ∷ plans (tableOf 2 (10 ∷ 10 ∷ 10 ∷ 10 ∷ 10 ∷ []) (5 ∷ 5 ∷ 5 ∷ 5 ∷ 1 ∷ [])) 1000000 Short (1 ∷ 1 ∷ 2 ∷ 2 ∷ 0 ∷ []) 1 5
+    ∷ plans (tableOf 1 (10 ∷ 10 ∷ 10 ∷ 10 ∷ 10 ∷ []) (8 ∷ 6 ∷ 3 ∷ 3 ∷ 3 ∷ [])) 10 Spent (0 ∷ 1 ∷ 1 ∷ 0 ∷ 0 ∷ []) 14 10
+    ∷ ticks (tableOf 1 (3 ∷ []) (2 ∷ [])) (1 ∷ []) 1 (replicate 3 (replicate 16 1)) (1 ∷ 0 ∷ 0 ∷ [])
+    ∷ prints listing "table 3 1 10\n1 10 7 0\n2 10 6 1\n3 10 4 1\nshort 7 6\n"
+    ∷ prints (tableOf 2 (10 ∷ 10 ∷ 10 ∷ 10 ∷ 10 ∷ []) (5 ∷ 5 ∷ 4 ∷ 3 ∷ 3 ∷ [])) "table 5 2 10\n1 10 5 1\n2 10 5 1\n3 10 4 2\n4 10 3 2\n5 10 3 2\nall 0 5\n"
+    ∷ prints (tableOf 1 (10 ∷ 10 ∷ []) (3 ∷ 8 ∷ [])) "table 2 1 10\n1 10 3 0\n2 10 8 1\nshort 3 2\n"
+    ∷ prints (tableOf 1 (1000 ∷ 1001 ∷ []) (1 ∷ 1 ∷ [])) "refused 7 2\n"
+    ∷ prints (tableOf 1 (10 ∷ []) (11 ∷ [])) "refused 6 1\n"
+    ∷ prints (17 ∷ 1 ∷ []) "refused 2 0\n"
+    ∷ prints [] "refused 1 0\n"
+    ∷ tickOnce (front (slot 8 1 3 0 ∷ slot 10 3 0 2 ∷ slot 5 2 0 1 ∷ [])) (9 ∷ 1 ∷ 9 ∷ replicate 13 0) 3 2
+    (front (slot 8 1 2 0 ∷ slot 10 3 9 1 ∷ slot 5 2 4 1 ∷ []))
+    ∷ []
+
 -- rows a to i and k; where the paper gives no limit it is 1,000,000
 unfoldable pub rows : List Row
 rows =
-    plans (table 1 (10 ∷ 10 ∷ []) (3 ∷ 7 ∷ [])) 1000000 All (1 ∷ 1 ∷ []) 0 2
-    ∷ plans (table 1 (10 ∷ 10 ∷ []) (3 ∷ 8 ∷ [])) 1000000 Short (0 ∷ 1 ∷ []) 3 2
+    plans (tableOf 1 (10 ∷ 10 ∷ []) (3 ∷ 7 ∷ [])) 1000000 All (1 ∷ 1 ∷ []) 0 2
+    ∷ plans (tableOf 1 (10 ∷ 10 ∷ []) (3 ∷ 8 ∷ [])) 1000000 Short (0 ∷ 1 ∷ []) 3 2
     ∷ frames rowC 6
     ∷ plans rowC 1000000 All (1 ∷ 1 ∷ 1 ∷ []) 0 3
-    ∷ plans (table 2 (10 ∷ 10 ∷ 10 ∷ 10 ∷ 10 ∷ []) (5 ∷ 5 ∷ 4 ∷ 3 ∷ 3 ∷ [])) 1000000 All (1 ∷ 1 ∷ 2 ∷ 2 ∷ 2 ∷ []) 0 5
+    ∷ plans (tableOf 2 (10 ∷ 10 ∷ 10 ∷ 10 ∷ 10 ∷ []) (5 ∷ 5 ∷ 4 ∷ 3 ∷ 3 ∷ [])) 1000000 All (1 ∷ 1 ∷ 2 ∷ 2 ∷ 2 ∷ []) 0 5
     ∷ plans listing 6 Short (0 ∷ 1 ∷ 1 ∷ []) 7 6
     ∷ plans listing 5 Spent (1 ∷ 0 ∷ 0 ∷ []) 10 5
     ∷ plans listing 0 Spent (0 ∷ 0 ∷ 0 ∷ []) 17 0
     ∷ ticks rowC (1 ∷ 1 ∷ 1 ∷ []) 1 (replicate 6 full) (1 ∷ 2 ∷ 1 ∷ 2 ∷ 1 ∷ 3 ∷ [])
     ∷ ticks rowC (1 ∷ 1 ∷ 1 ∷ []) 1 (full ∷ full ∷ firstSilent ∷ full ∷ full ∷ full ∷ []) (1 ∷ 2 ∷ 3 ∷ 2 ∷ 1 ∷ 0 ∷ [])
-    ∷ refuses (table 1 (1000 ∷ 1001 ∷ []) (1 ∷ 1 ∷ [])) 1000000 (Hyperperiod 2) 7 2
-    ∷ []
+    ∷ refuses (tableOf 1 (1000 ∷ 1001 ∷ []) (1 ∷ 1 ∷ [])) 1000000 7 2
+    ∷ more

@@ -4,7 +4,7 @@ use mathlib.Core.Path.{_≡_, refl, sym, _∙_, ap}
 use mathlib.Core.Bool.{Bool, true, false, true≢false}
 use mathlib.Core.Logic.{_⊎_, inl, inr}
 use native.Mathlib.Omega.{arith}
-use native.Mathlib.Nat.{eq-or-lt-of-le, lt-trans}
+use native.Mathlib.Nat.{eq-or-lt-of-le}
 use native.Mathlib.Decide.{decLt}
 use Rattle.numbers.specs.First.{firstFrom, first, IsFirst}
 
@@ -128,17 +128,3 @@ first-unique p n k i = go (first p n) refl
 -- a test and the statement that it decides
 pub isFirst-map : {P Q : ℕ → Type 0} {n k : ℕ} → ((j : ℕ) → P j → Q j) → ((j : ℕ) → Q j → P j) → IsFirst P n k → IsFirst Q n k
 isFirst-map f g i = record { below = i .below; here = f _ (i .here); none = λ j h q. i .none j h (g j q) }
-
--- it depends on the test below n alone
-pub first-cong : (p q : ℕ → Bool) (n : ℕ) → ((k : ℕ) → k < n → p k ≡ q k) → first p n ≡ first q n
-first-cong p q n h = go (first p n) refl
-  where
-    go : (w : ℕ) → first p n ≡ w → first p n ≡ first q n
-    go zero e = e ∙ sym (first-clear q n (λ k b. sym (h k b) ∙ first-zero p n e k b))
-    go (suc j) e =
-        let i = first-is p n j e in
-        e ∙ sym (first-unique q n j (record {
-          below = i .below;
-          here = sym (h j (i .below)) ∙ i .here;
-          none = λ m b t. i .none m b (h m (lt-trans b (i .below)) ∙ t);
-        }))

@@ -1,8 +1,12 @@
+pub mod BoolLaws
 pub mod BoundLaws
 pub mod FirstLaws
 pub mod RowLaws
+pub mod ZeroLaws
 pub mod MultipleLaws
 pub mod SumLaws
+pub mod LoadLaws
 pub mod InsertLaws
 pub mod SortingLaws
+pub mod ReorderLaws
 pub mod Width

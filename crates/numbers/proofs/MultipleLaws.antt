@@ -1,7 +1,7 @@
 -- Laws of the greatest common divisor and of the least common multiple.
-use Prim.Native.Nat.{ℕ, zero, suc, _-_, _*_, _/_, _%_, _≤_, _<_, _∣_}
-use mathlib.Core.Path.{_≡_, refl, sym, _∙_, ap, ap₂}
-use mathlib.Core.Logic.{_⊎_, inl, inr}
+use Prim.Native.Nat.{ℕ, zero, suc, _*_, _/_, _%_, _≤_, _<_, _∣_}
+use mathlib.Core.Path.{_≡_, refl, sym, _∙_, ap}
+use mathlib.Core.Logic.{_⊎_, inl, inr, _↔_}
 use native.Mathlib.Omega.{arith}
 use native.Mathlib.Nat.{dvd-refl, dvd-zero, dvd-mul-left, dvd-mul-right, dvd-trans, dvd-mul-right-of-dvd, dvd-mod-iff, dvd-antisymm, pos-of-dvd-of-pos, div-mul-cancel, mul-div-cancel', dvd-of-mul-dvd-mul-right, dvd-sub, mul-dvd-mul-left, mul-dvd-mul-right, mod-def, mul-sub, mod-lt, mul-assoc, mul-comm, mul-right-comm, one-mul, le-of-dvd, one-dvd, mul-pos, zero-lt-suc, le-div-iff-mul-le, eq-or-lt-of-le, div-zero, zero-mul}
 use Rattle.numbers.specs.Multiples.{euclid, gcd, lcm, lcms, IsLcm}
@@ -133,11 +133,12 @@ lcms-is f n p = record {
   least = λ c h. lcms-least f n c p h;
 }
 
--- it depends on the first n alone
-pub lcms-cong : (f g : ℕ → ℕ) (n : ℕ) → ((k : ℕ) → k < n → f k ≡ g k) → lcms f n ≡ lcms g n
-unfolding lcms
-lcms-cong f g zero h = refl
-lcms-cong f g (suc n) h = ap₂ lcm (lcms-cong f g n (λ k hk. h k (omega arith))) (h n (omega arith))
+-- A positive number is the least common multiple exactly if it is the one that is computed.
+pub lcms-exactly : (f : ℕ → ℕ) (n m : ℕ) → 0 < m → (m ≡ lcms f n) ↔ IsLcm f n m
+lcms-exactly f n m h = (
+  λ e. rw e (lcms-is f n (λ k b. pos-of-dvd-of-pos (rw e (lcms-multiple f n k b)) h)),
+  λ i. dvd-antisymm (i .least (lcms f n) (lcms-multiple f n)) (lcms-least f n m (λ k b. pos-of-dvd-of-pos (i .multiple k b) h) (i .multiple)),
+)
 
 -- the running multiple never falls
 pub lcms-mono : (f : ℕ → ℕ) (k n : ℕ) → k ≤ n → ((j : ℕ) → j < n → 0 < f j) → lcms f k ≤ lcms f n

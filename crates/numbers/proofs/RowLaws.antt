@@ -1,13 +1,13 @@
 -- Laws of rows of sixteen, and the steps of a loop that fills one from the front.
-use Prim.Native.Nat.{ℕ, zero, suc, _+_, _-_, _≤_, _<_}
+use Prim.Native.Nat.{ℕ, zero, suc, _+_, _≤_, _<_}
 use mathlib.Core.Path.{_≡_, refl, sym, _∙_, ap}
 use mathlib.Core.List.{List}
-use lib.ListN.{length, getD, set, replicate, length-set}
-use lib.Seq.{ext-getD, getD-set-same, getD-set-other}
+use lib.ListN.{length, getD, set, take, replicate, length-set, List·getD-eq-default}
+use lib.Seq.{ext-getD, getD-set-same, getD-set-other, getD-take, length-take-le, set-out}
 use native.Mathlib.Omega.{arith}
 use native.Mathlib.Decide.{ℕ-discrete, decLt}
 use borrow.Author.Tests.{lt-ltb, le-ltb}
-use Rattle.numbers.specs.Rows.{tab, upTo, row}
+use Rattle.numbers.specs.Rows.{tab, upTo, row, entry}
 
 module _ {A : Type 0} (z : A) where
   pub length-tab : (w : ℕ) (f : ℕ → A) → length (tab w f) ≡ w
@@ -42,6 +42,13 @@ module _ {A : Type 0} (z : A) where
     unfolding row
     getD-row-above k h g = getD-tab 16 (upTo z n f) k g ∙ upTo-above k h
 
+    pub row-beyond : (k : ℕ) → n ≤ k → getD (row z n f) k z ≡ z
+    row-beyond k h = at (decLt k 16)
+      where
+        at : Dec (k < 16) → getD (row z n f) k z ≡ z
+        at (yes b) = getD-row-above k h b
+        at (no b) = List·getD-eq-default (row z n f) z {n = k} (rw length-row (omega arith))
+
     -- sixteen entries that are f k below n and z from there on are the row
     pub row-ext : (l : List A) → length l ≡ 16 → ((k : ℕ) → k < 16 → getD l k z ≡ upTo z n f k) → l ≡ row z n f
     unfolding row
@@ -49,8 +56,18 @@ module _ {A : Type 0} (z : A) where
         ext-getD z l (tab 16 (upTo z n f)) (hl ∙ sym (length-tab 16 (upTo z n f)))
         (λ k hk. let b : k < 16 = omega arith in h k b ∙ sym (getD-tab 16 (upTo z n f) k b))
 
+  -- what holds of f below n and of z holds of every entry
+  pub row-each : (P : A → Type 0) (n : ℕ) (f : ℕ → A) → P z → ((k : ℕ) → k < n → P (f k)) → (k : ℕ) → P (getD (row z n f) k z)
+  unfolding row
+  row-each P n f o h k = at (decLt k 16) (decLt k n)
+    where
+      at : Dec (k < 16) → Dec (k < n) → P (getD (tab 16 (upTo z n f)) k z)
+      at (yes b) (yes l) = rw (getD-tab 16 (upTo z n f) k b, upTo-below n f k l) (h k l)
+      at (yes b) (no l) = rw (getD-tab 16 (upTo z n f) k b, upTo-above n f k (omega arith)) o
+      at (no b) l = rw (List·getD-eq-default (tab 16 (upTo z n f)) z {n = k} (rw length-tab (omega arith))) o
+
   -- one entry more changes no other
-  upTo-next : (n : ℕ) (f : ℕ → A) (k : ℕ) → (k ≡ n → ⊥) → upTo z n f k ≡ upTo z (n + 1) f k
+  pub upTo-next : (n : ℕ) (f : ℕ → A) (k : ℕ) → (k ≡ n → ⊥) → upTo z n f k ≡ upTo z (n + 1) f k
   upTo-next n f k ne = at (decLt k n)
     where
       at : Dec (k < n) → upTo z n f k ≡ upTo z (n + 1) f k
@@ -81,6 +98,28 @@ module _ {A : Type 0} (z : A) where
       at : (k : ℕ) → Dec (k < n) → upTo z n f k ≡ upTo z n g k
       at k (yes b) = upTo-below n f k b ∙ h k b ∙ sym (upTo-below n g k b)
       at k (no b) = upTo-above n f k (omega arith) ∙ sym (upTo-above n g k (omega arith))
+
+-- the front of a row is the list that it was made from
+pub take-row : (n : ℕ) (l : List ℕ) → length l ≡ n → n ≤ 16 → take n (row 0 n (entry l)) ≡ l
+take-row n l e few =
+    ext-getD 0 (take n (row 0 n (entry l))) l (long ∙ sym e)
+    (λ k h. let b : k < n = omega (arith, long) in getD-take n (row 0 n (entry l)) k 0 b ∙ getD-row 0 n (entry l) k b few)
+  where
+    long : length (take n (row 0 n (entry l))) ≡ n
+    long = length-take-le n (row 0 n (entry l)) (rw (length-row 0 n (entry l)) few)
+
+-- and of any row the list of its entries
+pub take-row-tab : (n : ℕ) (f : ℕ → ℕ) → n ≤ 16 → take n (row 0 n f) ≡ tab n f
+take-row-tab n f few =
+    ext-getD 0 (take n (row 0 n f)) (tab n f) (long ∙ sym (length-tab 0 n f))
+    (λ k h. let b : k < n = omega (arith, long) in getD-take n (row 0 n f) k 0 b ∙ getD-row 0 n f k b few ∙ sym (getD-tab 0 n f k b))
+  where
+    long : length (take n (row 0 n f)) ≡ n
+    long = length-take-le n (row 0 n f) (rw (length-row 0 n f) few)
+
+-- an index past the end changes nothing
+pub set-past : {A : Type 0} (l : List A) (k : ℕ) (x : A) → length l ≡ 16 → 16 ≤ k → l ≡ set l k x
+set-past l k x e h = sym (set-out l k x (rw e h))
 
 -- A loop that fills a row from the front: the first k of n entries are there.
 pub record Filled {A : Type 0} (z : A) (n : ℕ) (f : ℕ → A) (l : List A) (k : ℕ) : Type 0 where

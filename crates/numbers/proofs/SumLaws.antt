@@ -1,9 +1,10 @@
 -- Laws of sums.
 use Prim.Native.Nat.{ℕ, zero, suc, _+_, _*_, _≤_, _<_}
-use mathlib.Core.Path.{_≡_, refl, ap₂}
+use mathlib.Core.Path.{_≡_, refl, ap, ap₂, _∙_}
 use mathlib.Core.Bool.{Bool, true, false, cond}
 use mathlib.Core.Logic.{_≢_}
 use lib.Dec.{eqb}
+use native.Mathlib.Nat.{add-zero, add-suc}
 use native.Mathlib.Omega.{arith}
 use borrow.Author.Tests.{ne-eqb, eqb-true, eqb-false}
 use Rattle.numbers.specs.Sums.{sumTo}
@@ -29,6 +30,18 @@ pub sumTo-zero : (n : ℕ) → sumTo (λ k. 0) n ≡ 0
 unfolding sumTo
 sumTo-zero zero = refl
 sumTo-zero (suc n) = omega (arith, sumTo-zero n)
+
+-- the first term apart
+pub sumTo-front : (f : ℕ → ℕ) (n : ℕ) → sumTo f (suc n) ≡ f 0 + sumTo (λ k. f (suc k)) n
+unfolding sumTo
+sumTo-front f zero = refl
+sumTo-front f (suc n) = omega (arith, sumTo-front f n)
+
+-- terms of 0 from n on add nothing
+pub sumTo-above : (f : ℕ → ℕ) (n w : ℕ) → ((k : ℕ) → n ≤ k → f k ≡ 0) → sumTo f (n + w) ≡ sumTo f n
+unfolding sumTo
+sumTo-above f n zero h = ap (sumTo f) (add-zero n)
+sumTo-above f n (suc w) h = ap (sumTo f) (add-suc n w) ∙ omega (arith, h (n + w) (omega arith), sumTo-above f n w h)
 
 -- f x where k is x
 abbrev pub only : ℕ → (ℕ → ℕ) → ℕ → ℕ

@@ -4,3 +4,5 @@ pub mod Rows
 pub mod Multiples
 pub mod Sums
 pub mod Sorting
+pub mod Loads
+pub mod Reorder

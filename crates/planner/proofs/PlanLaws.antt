@@ -3,114 +3,109 @@ use Prim.Native.Nat.{ℕ, zero, suc, _≤_, _<_, zero-le}
 use mathlib.Core.Path.{_≡_, refl, sym, _∙_, ap}
 use mathlib.Core.Bool.{Bool, true, false}
 use mathlib.Core.List.{List}
-use lib.ListN.{getD, take, List·getD-eq-default}
-use native.Mathlib.Omega.{arith}
-use native.Mathlib.Decide.{decLt}
+use lib.ListN.{getD, take}
+use Rattle.numbers.specs.Reorder.{gather, scatter}
 use Rattle.numbers.specs.Rows.{row, entry, tab}
 use Rattle.numbers.specs.Sorting.{sorted}
-use Rattle.numbers.proofs.RowLaws.{getD-row, getD-row-above, length-row}
+use Rattle.numbers.proofs.ReorderLaws.{scatter-padded}
+use Rattle.numbers.proofs.RowLaws.{getD-row}
 use Rattle.refusal.specs.declared.Cause.{Cause}
 use Rattle.refusal.specs.declared.Outcome.{Outcome}
 use Rattle.refusal.specs.declared.Outcome.the-variants as outcome
-use Rattle.taskset.specs.Fields.{fieldsOf}
 use Rattle.taskset.specs.Demands.{hyperperiodOf, demandOf}
-use Rattle.taskset.specs.Refusals.{outcomeOf}
-use Rattle.taskset.specs.Reading.{taskSetOf, acceptedWith, readingOf}
+use Rattle.taskset.specs.Reading.{taskSetOf}
+use Rattle.taskset.specs.Limits.{Checked}
 use Rattle.taskset.proofs.DemandLaws.{demand-range}
-use Rattle.taskset.proofs.ReadingLaws.{reading-outcome, reading-decides, reading-accepted}
+use Rattle.taskset.proofs.ReadingLaws.{reading-outcome, reading-accepted}
 use Rattle.taskset.specs.declared.TaskSet.{TaskSet}
 use Rattle.taskset.specs.declared.Reading.{Reading}
-use Rattle.planning.specs.Order.{precedes, planningOrder}
-use Rattle.planning.proofs.OrderLaws.{planning-front}
-use Rattle.allocation.specs.Walk.{Answer, answer, every}
-use Rattle.allocation.specs.TableOrder.{gather, planned, scatter, tableAnswer}
+use Rattle.stored.specs.Form.{fieldsOf}
+use Rattle.stored.specs.Tests.{tableOutcome, readingOf}
+use Rattle.planning.specs.Order.{precedes, planningOrder, Listed}
+use Rattle.planning.proofs.OrderLaws.{planning-front, planning-is}
+use Rattle.planning.proofs.ListedLaws.{gathered-tasks, gathered-each}
+use Rattle.allocation.specs.Placement.{problemOf, anyCore}
+use Rattle.allocation.specs.Walk.{WalkAnswer, answer}
+use Rattle.allocation.specs.TableOrder.{inPlanningOrder, tableAnswer}
 use Rattle.search.specs.Search.{Ranges, foundOf}
-use Rattle.search.specs.Search as search
 use Rattle.search.specs.declared.Found.{Found}
-use Rattle.planner.specs.Problem.{problemOf, orderOf}
-use Rattle.planner.specs.Plan.{verdictOf, planFor, refusedFor, answerOf, planOf}
-use Rattle.planner.specs.Plan as plan
-use Rattle.planner.specs.Steps.{Listed, Ready, spread}
+use Rattle.planner.specs.Problem.{tableProblem, orderOf}
+use Rattle.planner.specs.Plan.{verdictOf, allocationOf, planFor, refusedPlan, planBy, planOf}
 use Rattle.planner.specs.declared.Allocation.{Allocation}
 use Rattle.planner.specs.declared.Verdict.{Verdict}
 use Rattle.planner.specs.declared.Verdict.the-variants.{All, Short, Spent}
-use Rattle.planner.proofs.OrderLaws.{order-below, entry-order, listed, planned-demands, spread-placement}
 
--- ---- a task set as the reader makes it
+-- ---- a checked task set
 
-module _ {t : TaskSet} (r : Ready t) where
+module _ {t : TaskSet} (c : Checked t) where
   pub few : t .fields .n ≤ 16
-  few = r .within .sizes .tasks .1
+  few = c .within .sizes .tasks .1
 
   hyperperiod-is : t .hyperperiod ≡ hyperperiodOf (t .fields)
   unfolding taskSetOf
-  hyperperiod-is = ap (λ x. x .hyperperiod) (r .is)
+  hyperperiod-is = ap (λ x. x .hyperperiod) (c .is)
 
   demands-are : t .demands ≡ row 0 (t .fields .n) (demandOf (t .fields))
   unfolding taskSetOf
-  demands-are = ap (λ x. x .demands) (r .is)
+  demands-are = ap (λ x. x .demands) (c .is)
+
+  demand-most : (k : ℕ) → k < t .fields .n → getD (t .demands) k 0 ≤ t .hyperperiod
+  demand-most k h =
+      rw (demands-are, getD-row 0 (t .fields .n) (demandOf (t .fields)) k h few, hyperperiod-is) (demand-range (c .within) h .1)
 
   module _ {o : List ℕ} (e : o ≡ planningOrder t) where
+    pub order-listed : Listed o (t .fields .n)
+    order-listed = record { few = few; each = rw e (planning-is t few .each) }
+
     front : take (t .fields .n) o ≡ orderOf (t .fields)
     unfolding orderOf
-    front = rw e (planning-front t few) ∙ ap (λ x. sorted (precedes x) (t .fields .n)) (r .is)
+    front = rw e (planning-front t few) ∙ ap (λ x. sorted (precedes x) (t .fields .n)) (c .is)
 
-    pub order-listed : Listed o (t .fields .n)
-    order-listed = listed (t .fields) few o front
-
-    module _ {d : List ℕ} (q : d ≡ row 0 (t .fields .n) (λ k. entry (t .demands) (entry o k))) where
+    module _ {d : List ℕ} (q : d ≡ row 0 (t .fields .n) (entry (gather (take (t .fields .n) o) (t .demands)))) where
       -- the search is given the table's problem in planning order
-      problem-is : search.problemOf d (t .fields .n) (t .fields .m) (t .hyperperiod) ≡ planned (problemOf (t .fields)) (orderOf (t .fields))
-      unfolding problemOf
+      problem-is : problemOf (t .hyperperiod) (t .fields .m) (take (t .fields .n) d) ≡ inPlanningOrder (tableProblem (t .fields)) (orderOf (t .fields))
+      unfolding tableProblem
       problem-is =
           let w : take (t .fields .n) d ≡ gather (orderOf (t .fields)) (tab (t .fields .n) (demandOf (t .fields))) =
-          rw (q, demands-are) (planned-demands (t .fields) few o front) in
-          λ i. record { capacity = hyperperiod-is i; cores = t .fields .m; demands = w i; permits = λ k c. true }
+          rw (q, demands-are) (gathered-tasks order-listed (demandOf (t .fields)) ∙ ap (λ l. gather l (tab (t .fields .n) (demandOf (t .fields)))) front) in
+          λ i. record { capacity = hyperperiod-is i; cores = t .fields .m; demands = w i; permits = anyCore }
 
       demand-small : (k : ℕ) → getD d k 0 ≤ t .hyperperiod
-      demand-small k = rw q (at (decLt k (t .fields .n)) (decLt k 16))
-        where
-          g : ℕ → ℕ
-          g k = entry (t .demands) (entry o k)
-
-          at : Dec (k < t .fields .n) → Dec (k < 16) → getD (row 0 (t .fields .n) g) k 0 ≤ t .hyperperiod
-          at (yes h) x =
-              rw (getD-row 0 (t .fields .n) g k h few, demands-are, entry-order (t .fields) few o front k h)
-              (rw (getD-row 0 (t .fields .n) (demandOf (t .fields)) _ (order-below (t .fields) few k h) few, hyperperiod-is)
-              (demand-range (r .within) (order-below (t .fields) few k h) .1))
-          at (no h) (yes x) = rw (getD-row-above 0 (t .fields .n) g k (omega arith) x) zero-le
-          at (no h) (no x) =
-              rw (List·getD-eq-default (row 0 (t .fields .n) g) 0 {n = k} (rw length-row (omega arith))) zero-le
+      demand-small k = rw q (gathered-each order-listed (λ x. x ≤ t .hyperperiod) (t .demands) zero-le demand-most k)
 
       pub ranges : Ranges d (t .fields .n) (t .fields .m) (t .hyperperiod)
       ranges = record {
-        some = r .within .sizes .tasks .0;
+        some = c .within .sizes .tasks .0;
         few = few;
-        one-core = r .within .sizes .cores .0;
-        few-cores = r .within .sizes .cores .1;
-        small = rw hyperperiod-is (r .within .multiple);
+        one-core = c .within .sizes .cores .0;
+        few-cores = c .within .sizes .cores .1;
+        small = rw hyperperiod-is (c .within .multiple);
         each = demand-small;
       }
 
       -- and what it finds, back in table order, is the plan
-      module _ (limit : ℕ) {found : Found} (w : found ≡ foundOf (answer (search.problemOf d (t .fields .n) (t .fields .m) (t .hyperperiod)) every limit)) where
-        a : Answer
-        a = answer (planned (problemOf (t .fields)) (orderOf (t .fields))) every limit
+      module _ (limit : ℕ) {found : Found} (w : found ≡ foundOf (answer (problemOf (t .hyperperiod) (t .fields .m) (take (t .fields .n) d)) limit)) where
+        a : WalkAnswer
+        a = answer (inPlanningOrder (tableProblem (t .fields)) (orderOf (t .fields))) limit
 
         found-is : found ≡ foundOf a
         unfolding a
-        found-is = w ∙ ap (λ P. foundOf (answer P every limit)) problem-is
+        found-is = w ∙ ap (λ P. foundOf (answer P limit)) problem-is
 
-        pub plan-is : {p : List ℕ} {v : Verdict} → p ≡ spread (t .fields .n) o (found .placement) → v ≡ verdictOf (found .spent) (found .rejected)
+        pub plan-is : {p : List ℕ} {v : Verdict} → p ≡ row 0 (t .fields .n) (entry (scatter (take (t .fields .n) o) (found .placement)))
+            → v ≡ verdictOf (found .spent) (found .rejected)
             → _≡_ {A = Allocation} (record { verdict = v; placement = p; rejected = found .rejected; steps = found .steps }) (planFor (t .fields) limit)
-        unfolding planFor plan.planned tableAnswer foundOf a
+        unfolding planFor allocationOf tableAnswer foundOf a
         plan-is {p} {v} x y =
             let s : p ≡ row 0 (t .fields .n) (entry (scatter (orderOf (t .fields)) (a .placement))) =
-            x ∙ ap (λ g. spread (t .fields .n) o (g .placement)) found-is ∙ spread-placement (t .fields) few o front (a .placement) in
+            x
+            ∙ ap (λ l. row 0 (t .fields .n) (entry (scatter l (found .placement)))) front
+            ∙ ap (λ g. row 0 (t .fields .n) (entry (scatter (orderOf (t .fields)) (g .placement)))) found-is
+            ∙ ap (λ l. row 0 (t .fields .n) (entry l)) (scatter-padded (orderOf (t .fields)) (a .placement)) in
             let u : v ≡ verdictOf (a .spent) (a .rejected) = y ∙ ap (λ g. verdictOf (g .spent) (g .rejected)) found-is in
             λ i. record { verdict = u i; placement = s i; rejected = found-is i .rejected; steps = found-is i .steps }
 
--- ---- from the reader's answer to the plan
+-- ---- the verdict
 
 pub verdict-spent : (b : Bool) (x : ℕ) → b ≡ true → Spent ≡ verdictOf b x
 unfolding verdictOf
@@ -125,29 +120,22 @@ unfolding verdictOf
 verdict-short b zero e q = absurd (q refl)
 verdict-short b (suc x) e q = rw e
 
-module _ (s : List ℕ) {g : Reading} (e : g ≡ readingOf s) where
-  reading-says : {o : Outcome} → g .outcome ≡ o → outcomeOf s ≡ o
-  reading-says q = sym (reading-outcome s) ∙ ap (λ x. x .outcome) (sym e) ∙ q
+-- ---- from the reader's answer to the plan
 
-  pub plan-refused : (limit : ℕ) {c : Cause} {r : Allocation} → r ≡ refusedFor c → g .outcome ≡ outcome.Refused c → r ≡ planOf s limit
-  unfolding planOf answerOf
+module _ (s : List ℕ) {g : Reading} (e : g ≡ readingOf s) where
+  reading-says : {o : Outcome} → g .outcome ≡ o → tableOutcome s ≡ o
+  unfolding readingOf
+  reading-says q = sym (reading-outcome (tableOutcome s) (fieldsOf s)) ∙ ap (λ x. x .outcome) (sym e) ∙ q
+
+  pub plan-refused : (limit : ℕ) {c : Cause} {r : Allocation} → r ≡ refusedPlan c → g .outcome ≡ outcome.Refused c → r ≡ planOf s limit
+  unfolding planOf planBy
   plan-refused limit w q = rw (reading-says q) w
 
-  module _ (q : g .outcome ≡ outcome.Accepted) where
-    tasks-are : g .tasks ≡ taskSetOf (fieldsOf s)
-    unfolding acceptedWith
-    tasks-are = ap (λ x. x .tasks) (e ∙ reading-accepted s (ap (λ x. x .outcome) (sym e) ∙ q))
+  -- the fields of an accepted reading
+  pub fields-are : g .outcome ≡ outcome.Accepted → g .tasks .fields ≡ fieldsOf s
+  unfolding readingOf taskSetOf
+  fields-are q = ap (λ x. x .tasks .fields) e ∙ ap (λ x. x .fields) (reading-accepted (tableOutcome s) (fieldsOf s) (sym (ap (λ x. x .outcome) e) ∙ q))
 
-    fields-are : g .tasks .fields ≡ fieldsOf s
-    unfolding taskSetOf
-    fields-are = ap (λ x. x .fields) tasks-are
-
-    pub ready : Ready (g .tasks)
-    ready = record {
-      within = rw fields-are (reading-decides s .accepted .0 (ap (λ x. x .outcome) (sym e) ∙ q) .fields);
-      is = tasks-are ∙ ap taskSetOf (sym fields-are);
-    }
-
-    pub plan-accepted : (limit : ℕ) {r : Allocation} → r ≡ planFor (g .tasks .fields) limit → r ≡ planOf s limit
-    unfolding planOf answerOf
-    plan-accepted limit w = rw (reading-says q) (w ∙ ap (λ f. planFor f limit) fields-are)
+  pub plan-accepted : (limit : ℕ) {r : Allocation} → g .outcome ≡ outcome.Accepted → r ≡ planFor (g .tasks .fields) limit → r ≡ planOf s limit
+  unfolding planOf planBy
+  plan-accepted limit q w = rw (reading-says q) (w ∙ ap (λ f. planFor f limit) (fields-are q))

@@ -1,35 +1,41 @@
 -- The plan of a valid table keeps demand 2, and the planner accepts exactly the valid tables.
 use Prim.Native.Nat.{ℕ, zero, suc, _≤_, _<_}
-use mathlib.Core.Path.{_≡_, refl, sym, _∙_}
+use mathlib.Core.Path.{_≡_, refl, sym, _∙_, ap}
 use mathlib.Core.Bool.{Bool, true, false, true≢false}
 use mathlib.Core.List.{List}
-use mathlib.Core.Logic.{_↔_, _≢_}
-use lib.ListN.{length, getD, take}
-use lib.Seq.{ext-getD, getD-take, length-take-le}
+use mathlib.Core.Logic.{_⊎_, inl, inr, _↔_, _≢_}
+use lib.ListN.{length, getD, take, replicate}
 use native.Mathlib.Omega.{arith}
-use Rattle.numbers.specs.Rows.{row, entry}
-use Rattle.numbers.proofs.RowLaws.{getD-row, length-row, getD-tab}
-use Rattle.refusal.specs.Faults.{Decides}
+use Rattle.numbers.specs.Reorder.{scatter}
+use Rattle.numbers.specs.Rows.{entry}
+use Rattle.numbers.specs.Sorting.{Permutation}
+use Rattle.numbers.proofs.RowLaws.{row-beyond, length-tab, getD-tab, take-row}
+use Rattle.numbers.proofs.SortingLaws.{sorted-permutation}
+use Rattle.refusal.specs.Causes.{numberIn}
+use Rattle.refusal.specs.Conditions.{Decides}
+use Rattle.refusal.proofs.ConditionLaws.{decides, accepts}
 use Rattle.refusal.specs.declared.Outcome.{Outcome}
 use Rattle.refusal.specs.declared.Outcome.the-variants as outcome
-use Rattle.taskset.specs.Fields.{fieldsOf}
 use Rattle.taskset.specs.Demands.{demandOf}
-use Rattle.taskset.specs.Refusals.{outcomeOf}
-use Rattle.taskset.specs.Limits.{Within, Valid, Fault}
+use Rattle.taskset.specs.Limits.{Within}
+use Rattle.taskset.specs.Reading.{taskSetOf}
 use Rattle.taskset.proofs.DemandLaws.{demand-range}
-use Rattle.taskset.proofs.LimitLaws.{table-decides}
+use Rattle.stored.specs.Form.{fieldsOf}
+use Rattle.stored.specs.Tests.{tableOutcome}
+use Rattle.stored.specs.Limits.{Valid, conditions}
+use Rattle.stored.proofs.TableLaws.{table-tested}
+use Rattle.planning.specs.Order.{precedes}
 use Rattle.taskset.specs.declared.Fields.{Fields}
-use Rattle.allocation.specs.Placement.{Problem, Feasible, Full, rejected}
-use Rattle.allocation.specs.Walk.{Answer, every}
+use Rattle.allocation.specs.Placement.{Feasible, Full, rejected}
+use Rattle.allocation.specs.Walk.{WalkAnswer, LastLeaf, NoLeaf}
 use Rattle.allocation.specs.TableOrder.{tableAnswer}
 use Rattle.allocation.specs.Guarantee.{Guarantee}
-use Rattle.allocation.proofs.Guarantee.{guaranteed, every-redundant}
-use Rattle.planner.specs.Problem.{problemOf, orderOf}
-use Rattle.planner.specs.Plan.{verdictOf, planned, planFor, refusedFor, answerOf, planOf, outcomeBy}
-use Rattle.planner.specs.Promise.{walkLength, choicesOf, Promise}
+use Rattle.allocation.proofs.Guarantee.{guaranteed}
+use Rattle.planner.specs.Problem.{tableProblem, orderOf}
+use Rattle.planner.specs.Plan.{verdictOf, allocationOf, planFor, refusedPlan, planBy, planOf, verdictOutcome}
+use Rattle.planner.specs.Promise.{walkOf, choicesOf, Promise, RefusedPlan, Plans}
 use Rattle.planner.specs.declared.Allocation.{Allocation}
 use Rattle.planner.specs.declared.Verdict.the-variants.{All, Short, Spent}
-use Rattle.planner.proofs.OrderLaws.{demands-long, order-permutation}
 
 -- ---- what each verdict says
 
@@ -61,72 +67,89 @@ module _ (f : Fields) (w : Within f) (limit : ℕ) where
   few : f .n ≤ 16
   few = w .sizes .tasks .1
 
-  T : Problem
-  T = problemOf f
+  demands-long : length (tableProblem f .demands) ≡ f .n
+  unfolding tableProblem
+  demands-long = length-tab 0 (f .n) (demandOf f)
 
-  a : Answer
-  a = tableAnswer (problemOf f) (orderOf f) every limit
+  -- the planning order has each task once
+  order-permutation : Permutation (length (tableProblem f .demands)) (orderOf f)
+  unfolding orderOf
+  order-permutation = rw demands-long (sorted-permutation (precedes (taskSetOf f)) (f .n))
 
-  positive : (k : ℕ) → k < length (problemOf f .demands) → 1 ≤ getD (problemOf f .demands) k 0
-  unfolding problemOf
+  a : WalkAnswer
+  a = tableAnswer (tableProblem f) (orderOf f) limit
+
+  positive : (k : ℕ) → k < length (tableProblem f .demands) → 1 ≤ getD (tableProblem f .demands) k 0
+  unfolding tableProblem
   positive k h =
-      let b : k < f .n = rw (demands-long f few) at h in
+      let b : k < f .n = rw demands-long at h in
       rw (getD-tab 0 (f .n) (demandOf f) k b) (demand-range w b .0)
 
-  keeps : Guarantee (problemOf f) (orderOf f) every limit a
+  keeps : Guarantee (tableProblem f) (orderOf f) limit a
   unfolding a
-  keeps = guaranteed (problemOf f) (orderOf f) (order-permutation f few) positive every (every-redundant _) limit
+  keeps = guaranteed (tableProblem f) (orderOf f) order-permutation positive limit
 
   -- the row's front is the answer's placement
   choices-are : choicesOf f (planFor f limit) ≡ a .placement
-  unfolding planFor planned a
-  choices-are =
-      ext-getD 0 (take (f .n) (row 0 (f .n) (entry (a .placement)))) (a .placement)
-      (long ∙ sym (keeps .feasible .whole ∙ demands-long f few))
-      (λ k h. let b : k < f .n = rw long at h in
-      getD-take (f .n) (row 0 (f .n) (entry (a .placement))) k 0 b ∙ getD-row 0 (f .n) (entry (a .placement)) k b few)
-    where
-      long : length (take (f .n) (row 0 (f .n) (entry (a .placement)))) ≡ f .n
-      long = length-take-le (f .n) (row 0 (f .n) (entry (a .placement))) (rw (length-row 0 (f .n) (entry (a .placement))) few)
+  unfolding planFor allocationOf a
+  choices-are = take-row (f .n) (a .placement) (keeps .feasible .whole ∙ demands-long) few
+
+  -- and zeros follow it
+  beyond : (k : ℕ) → f .n ≤ k → entry (planFor f limit .placement) k ≡ 0
+  unfolding planFor allocationOf a
+  beyond k h = row-beyond 0 (f .n) (entry (a .placement)) k h
 
   verdict-is : planFor f limit .verdict ≡ verdictOf (a .spent) (a .rejected)
-  unfolding planFor planned a
+  unfolding planFor allocationOf a
   verdict-is = refl
 
   unspent : planFor f limit .verdict ≢ Spent → a .spent ≡ false
   unspent h = not-spent (a .spent) (a .rejected) (λ e. h (verdict-is ∙ e))
 
-  all-exactly : a .spent ≡ false → (planFor f limit .verdict ≡ All) ↔ ((q : List ℕ) × Feasible (problemOf f) q × Full q)
+  all-exactly : a .spent ≡ false → (planFor f limit .verdict ≡ All) ↔ ((q : List ℕ) × Feasible (tableProblem f) q × Full q)
   all-exactly h = (
     λ e. keeps .all h .0 (all-is (a .spent) (a .rejected) h .0 (sym verdict-is ∙ e)),
     λ x. verdict-is ∙ all-is (a .spent) (a .rejected) h .1 (keeps .all h .1 x),
   )
 
-  short-exactly : a .spent ≡ false → (planFor f limit .verdict ≡ Short) ↔ ((q : List ℕ) → Feasible (problemOf f) q → Full q → ⊥)
+  short-exactly : a .spent ≡ false → (planFor f limit .verdict ≡ Short) ↔ ((q : List ℕ) → Feasible (tableProblem f) q → Full q → ⊥)
   short-exactly h = (
     λ e q g u. omega (arith, short-is (a .spent) (a .rejected) h .0 (sym verdict-is ∙ e), keeps .all h .1 (q, g, u)),
     λ none. verdict-is ∙ short-is (a .spent) (a .rejected) h .1 (at none (a .rejected) refl),
   )
     where
-      at : ((q : List ℕ) → Feasible (problemOf f) q → Full q → ⊥) → (x : ℕ) → a .rejected ≡ x → 1 ≤ a .rejected
+      at : ((q : List ℕ) → Feasible (tableProblem f) q → Full q → ⊥) → (x : ℕ) → a .rejected ≡ x → 1 ≤ a .rejected
       at none zero e = let r = keeps .all h .0 e in absurd (none (r .0) (r .1) (r .2))
       at none (suc x) e = omega arith
 
-  spent-exactly : (planFor f limit .verdict ≡ Spent) ↔ (limit < walkLength f)
+  spent-exactly : (planFor f limit .verdict ≡ Spent) ↔ (limit < length (walkOf f))
   spent-exactly = (
     λ e. keeps .spent .0 (spent-is (a .spent) (a .rejected) .0 (sym verdict-is ∙ e)),
     λ h. verdict-is ∙ spent-is (a .spent) (a .rejected) .1 (keeps .spent .1 h),
   )
 
+  stored : ((p : List ℕ) × LastLeaf (take limit (walkOf f)) p × (choicesOf f (planFor f limit) ≡ scatter (orderOf f) p))
+      ⊎ (NoLeaf (take limit (walkOf f)) × (choicesOf f (planFor f limit) ≡ replicate (f .n) 0))
+  stored = go (keeps .stores)
+    where
+      go : ((p : List ℕ) × LastLeaf (take limit (walkOf f)) p × (a .placement ≡ scatter (orderOf f) p))
+          ⊎ (NoLeaf (take limit (walkOf f)) × (a .placement ≡ replicate (length (tableProblem f .demands)) 0))
+          → ((p : List ℕ) × LastLeaf (take limit (walkOf f)) p × (choicesOf f (planFor f limit) ≡ scatter (orderOf f) p))
+          ⊎ (NoLeaf (take limit (walkOf f)) × (choicesOf f (planFor f limit) ≡ replicate (f .n) 0))
+      go (inl x) = inl (x .0, x .1, choices-are ∙ x .2)
+      go (inr x) = inr (x .0, choices-are ∙ x .1 ∙ ap (λ (k : ℕ). replicate k 0) demands-long)
+
   pub promised : Promise f limit (planFor f limit)
-  unfolding planFor planned a problemOf
+  unfolding planFor allocationOf a tableProblem
   promised = record {
     safe = λ core h g. rw choices-are (keeps .feasible .fits core h g);
     feasible = rw choices-are (keeps .feasible);
+    beyond = beyond;
     best = λ h. rw choices-are (keeps .best (unspent h));
     all = λ h. all-exactly (unspent h);
     short = λ h. short-exactly (unspent h);
     spent = spent-exactly;
+    stores = λ e. stored;
     limited = λ e. keeps .limited (spent-exactly′ e);
     complete = λ h. keeps .complete (unspent h);
     rejects = rw choices-are (keeps .rejects);
@@ -137,27 +160,37 @@ module _ (f : Fields) (w : Within f) (limit : ℕ) where
 
 -- ---- demand 1
 
-outcome-planned : (b : Bool) (x : ℕ) → outcomeBy (verdictOf b x) ≡ outcome.Accepted
-unfolding verdictOf outcomeBy
+outcome-planned : (b : Bool) (x : ℕ) → verdictOutcome (verdictOf b x) ≡ outcome.Accepted
+unfolding verdictOf verdictOutcome
 outcome-planned true x = refl
 outcome-planned false zero = refl
 outcome-planned false (suc x) = refl
 
-answer-outcome : (o : Outcome) (f : Fields) (limit : ℕ) → outcomeBy (answerOf o f limit .verdict) ≡ o
-unfolding answerOf refusedFor outcomeBy planFor planned
+answer-outcome : (o : Outcome) (f : Fields) (limit : ℕ) → verdictOutcome (planBy o f limit .verdict) ≡ o
+unfolding planBy refusedPlan verdictOutcome planFor allocationOf
 answer-outcome outcome.Accepted f limit = outcome-planned _ _
 answer-outcome (outcome.Refused c) f limit = refl
 
-plan-outcome : (s : List ℕ) (limit : ℕ) → outcomeBy (planOf s limit .verdict) ≡ outcomeOf s
+plan-outcome : (s : List ℕ) (limit : ℕ) → verdictOutcome (planOf s limit .verdict) ≡ tableOutcome s
 unfolding planOf
-plan-outcome s limit = answer-outcome (outcomeOf s) (fieldsOf s) limit
+plan-outcome s limit = answer-outcome (tableOutcome s) (fieldsOf s) limit
 
--- what the promise says of an answer that equals the definition
-pub decided : (s : List ℕ) (limit : ℕ) {r : Allocation} → r ≡ planOf s limit → Decides (Valid s) (Fault s) (outcomeBy (r .verdict))
-decided s limit e = rw (e, plan-outcome s limit) (table-decides s)
+-- a refused plan is zeros
+by-refused : (o : Outcome) (f : Fields) (limit : ℕ) → numberIn o ≢ 0 → RefusedPlan (planBy o f limit)
+unfolding planBy refusedPlan
+by-refused outcome.Accepted f limit n = absurd (n refl)
+by-refused (outcome.Refused c) f limit n = record { placement = refl; rejected = refl; steps = refl }
 
-pub keeps-promise : (s : List ℕ) (limit : ℕ) {r : Allocation} → r ≡ planOf s limit → Valid s → Promise (fieldsOf s) limit r
-unfolding planOf answerOf
-keeps-promise s limit e v =
-    let o : outcomeOf s ≡ outcome.Accepted = table-decides s .accepted .1 v in
-    rw (e, o) (promised (fieldsOf s) (v .fields) limit)
+-- what is promised of an answer that equals the definition
+module _ (s : List ℕ) (limit : ℕ) {r : Allocation} (e : r ≡ planOf s limit) where
+  pub plan-decides : Decides (Valid s) (conditions s) (verdictOutcome (r .verdict))
+  plan-decides = rw (e, plan-outcome s limit) (decides (table-tested s))
+
+  pub plan-promised : Plans s limit r
+  unfolding planOf planBy
+  plan-promised = record {
+    promise = λ v.
+        let o : tableOutcome s ≡ outcome.Accepted = accepts (decides (table-tested s)) .1 v in
+        rw (e, o) (promised (fieldsOf s) (v .fields) limit);
+    refused = λ n. rw e (by-refused (tableOutcome s) (fieldsOf s) limit (rw (e, plan-outcome s limit) at n));
+  }

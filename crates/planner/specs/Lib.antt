@@ -1,4 +1,3 @@
 pub mod Problem
 pub mod Plan
 pub mod Promise
-pub mod Steps

@@ -1,6 +1,5 @@
 -- What a table asks of the planner. Tasks are counted from 0 in table order.
 use Prim.Native.Nat.{ℕ}
-use mathlib.Core.Bool.{true}
 use mathlib.Core.List.{List}
 use Rattle.numbers.specs.Rows.{tab}
 use Rattle.numbers.specs.Sorting.{sorted}
@@ -8,16 +7,11 @@ use Rattle.taskset.specs.Demands.{hyperperiodOf, demandOf}
 use Rattle.taskset.specs.Reading.{taskSetOf}
 use Rattle.taskset.specs.declared.Fields.{Fields}
 use Rattle.planning.specs.Order.{precedes}
-use Rattle.allocation.specs.Placement.{Problem}
+use Rattle.allocation.specs.Placement.{Problem, problemOf}
 
--- the tasks' demands on cores that each hold one hyperperiod; a task may run on every core
-unfoldable pub problemOf : Fields → Problem
-problemOf f = record {
-  capacity = hyperperiodOf f;
-  cores = f .m;
-  demands = tab (f .n) (demandOf f);
-  permits = λ task core. true;
-}
+-- the tasks' demands, on cores that each hold one hyperperiod
+unfoldable pub tableProblem : Fields → Problem
+tableProblem f = problemOf (hyperperiodOf f) (f .m) (tab (f .n) (demandOf f))
 
 -- the tasks in planning order
 unfoldable pub orderOf : Fields → List ℕ

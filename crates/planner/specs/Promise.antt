@@ -1,21 +1,27 @@
--- Demand 2, sentence by sentence, of the plan for fields within the limits, in the table's terms.
+-- Demand 2, sentence by sentence, of the plan for fields within the limits, in the table's terms; and what a refused plan is.
 use Prim.Native.Nat.{ℕ, _≤_, _<_}
 use mathlib.Core.Path.{_≡_}
 use mathlib.Core.List.{List}
-use mathlib.Core.Logic.{_↔_, _≢_}
-use lib.ListN.{length, take}
+use mathlib.Core.Logic.{_⊎_, _↔_, _≢_}
+use lib.ListN.{length, take, replicate}
+use Rattle.numbers.specs.Reorder.{scatter}
+use Rattle.numbers.specs.Rows.{entry}
+use Rattle.refusal.specs.Causes.{numberIn}
 use Rattle.taskset.specs.Demands.{hyperperiodOf}
 use Rattle.taskset.specs.declared.Fields.{Fields}
+use Rattle.stored.specs.Form.{fieldsOf}
+use Rattle.stored.specs.Limits.{Valid}
 use Rattle.allocation.specs.Placement.{Feasible, Full, load, rejected}
-use Rattle.allocation.specs.Walk.{trace, every}
-use Rattle.allocation.specs.TableOrder.{planned, BestPlan}
-use Rattle.planner.specs.Problem.{problemOf, orderOf}
+use Rattle.allocation.specs.Walk.{Step, trace, LastLeaf, NoLeaf}
+use Rattle.allocation.specs.TableOrder.{inPlanningOrder, BestPlan}
+use Rattle.planner.specs.Problem.{tableProblem, orderOf}
+use Rattle.planner.specs.Plan.{verdictOutcome}
 use Rattle.planner.specs.declared.Allocation.{Allocation}
 use Rattle.planner.specs.declared.Verdict.the-variants.{All, Short, Spent}
 
--- the complete walk's number of steps
-abbrev pub walkLength : Fields → ℕ
-walkLength f = length (trace (planned (problemOf f) (orderOf f)) every)
+-- the complete walk, step by step
+abbrev pub walkOf : Fields → List Step
+walkOf f = trace (inPlanningOrder (tableProblem f) (orderOf f))
 
 -- the choices of the n tasks
 abbrev pub choicesOf : Fields → Allocation → List ℕ
@@ -23,18 +29,34 @@ choicesOf f r = take (f .n) (r .placement)
 
 pub record Promise (f : Fields) (limit : ℕ) (r : Allocation) : Type 0 where
   -- No plan puts an exact load above one on any core,
-  pub safe : (core : ℕ) → 1 ≤ core → core ≤ f .m → load (problemOf f) core (choicesOf f r) ≤ hyperperiodOf f
-  -- and each task has a core of the table, or is left out.
-  pub feasible : Feasible (problemOf f) (choicesOf f r)
+  pub safe : (core : ℕ) → 1 ≤ core → core ≤ f .m → load (tableProblem f) core (choicesOf f r) ≤ hyperperiodOf f
+  -- and each task has a core of the table, or is left out; entries beyond n are 0.
+  pub feasible : Feasible (tableProblem f) (choicesOf f r)
+  pub beyond : (k : ℕ) → f .n ≤ k → entry (r .placement) k ≡ 0
   -- Unless the step limit ran out, the plan is the best one: the least demand is rejected, the first in the stated order among equals.
-  pub best : r .verdict ≢ Spent → BestPlan (problemOf f) (orderOf f) (choicesOf f r)
+  pub best : r .verdict ≢ Spent → BestPlan (tableProblem f) (orderOf f) (choicesOf f r)
   -- "All placed" is said if and only if a full placement exists; "short" otherwise.
-  pub all : r .verdict ≢ Spent → (r .verdict ≡ All) ↔ ((q : List ℕ) × Feasible (problemOf f) q × Full q)
-  pub short : r .verdict ≢ Spent → (r .verdict ≡ Short) ↔ ((q : List ℕ) → Feasible (problemOf f) q → Full q → ⊥)
+  pub all : r .verdict ≢ Spent → (r .verdict ≡ All) ↔ ((q : List ℕ) × Feasible (tableProblem f) q × Full q)
+  pub short : r .verdict ≢ Spent → (r .verdict ≡ Short) ↔ ((q : List ℕ) → Feasible (tableProblem f) q → Full q → ⊥)
   -- That the limit ran out is said exactly if the complete walk is longer than the limit.
-  pub spent : (r .verdict ≡ Spent) ↔ (limit < walkLength f)
+  pub spent : (r .verdict ≡ Spent) ↔ (limit < length (walkOf f))
+  -- Then the placement is the last complete one among the walk's first `limit` steps, or all tasks are left out if there is none.
+  pub stores : r .verdict ≡ Spent
+      → ((p : List ℕ) × LastLeaf (take limit (walkOf f)) p × (choicesOf f r ≡ scatter (orderOf f) p))
+      ⊎ (NoLeaf (take limit (walkOf f)) × (choicesOf f r ≡ replicate (f .n) 0))
   -- The step count is the number of choices entered,
   pub limited : r .verdict ≡ Spent → r .steps ≡ limit
-  pub complete : r .verdict ≢ Spent → r .steps ≡ walkLength f
+  pub complete : r .verdict ≢ Spent → r .steps ≡ length (walkOf f)
   -- and the rejected demand is that of the placement.
-  pub rejects : r .rejected ≡ rejected (problemOf f) (choicesOf f r)
+  pub rejects : r .rejected ≡ rejected (tableProblem f) (choicesOf f r)
+
+-- A refused plan is all zeros beside its cause.
+pub record RefusedPlan (r : Allocation) : Type 0 where
+  pub placement : r .placement ≡ replicate 16 0
+  pub rejected : r .rejected ≡ 0
+  pub steps : r .steps ≡ 0
+
+-- What is promised of the answer for a table: a valid table's plan keeps demand 2, a refused one is zeros.
+pub record Plans (table : List ℕ) (limit : ℕ) (r : Allocation) : Type 0 where
+  pub promise : Valid table → Promise (fieldsOf table) limit r
+  pub refused : numberIn (verdictOutcome (r .verdict)) ≢ 0 → RefusedPlan r

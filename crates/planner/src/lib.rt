@@ -1,14 +1,10 @@
 // The exact planner: the best plan of a stored table, within a step limit.
 ghost use mathlib.Core.Path.{_≡_};
-ghost use Prim.Native.Nat.{ℕ, _≤_, _<_};
-ghost use lib.ListN.{getD, set};
-ghost use Rattle.numbers.specs.Rows.{row, entry};
-ghost use Rattle.refusal.specs.Faults.{Decides};
-ghost use Rattle.taskset.specs.Fields.{fieldsOf};
-ghost use Rattle.taskset.specs.Limits.{Valid, Fault};
-ghost use Rattle.planner.specs.Steps.{Listed, Ready, spread};
-ghost use Rattle.planner.specs.Plan.{verdictOf, planFor, refusedFor, planOf, outcomeBy};
-ghost use Rattle.planner.specs.Promise.{Promise};
+ghost use Rattle.refusal.specs.Conditions.{Decides};
+ghost use Rattle.taskset.specs.Limits.{Checked};
+ghost use Rattle.stored.specs.Limits.{Valid, conditions};
+ghost use Rattle.planner.specs.Plan.{verdictOf, planFor, refusedPlan, planOf, verdictOutcome};
+ghost use Rattle.planner.specs.Promise.{Plans};
 use refusal::Cause;
 use refusal::Outcome;
 use taskset::TaskSet;
@@ -33,56 +29,7 @@ pub struct Allocation {
     pub steps: u32,
 }
 
-// The demands with one entry changed.
-fn with_demand(mut demands: [u32; 16], k: usize, x: u32) -> [u32; 16]
-    requires { ⌜ k < 16 ⌝ }
-    ensures { λ r. ⌜ r ≡ set demands k x ⌝ }
-{
-    demands[k] = x;
-    demands
-}
-
-// The placement with the core of one task changed.
-fn with_core(mut placement: [u8; 16], task: usize, core: u8) -> [u8; 16]
-    requires { ⌜ task < 16 ⌝ }
-    ensures { λ r. ⌜ r ≡ set placement task core ⌝ }
-{
-    placement[task] = core;
-    placement
-}
-
-// The demands of the first `n` tasks of an order, in that order.
-fn in_order(demands: [u32; 16], order: [usize; 16], n: usize) -> [u32; 16]
-    requires { ⌜ Listed order n ⌝ }
-    ensures { λ r. ⌜ r ≡ row 0 n (λ k. entry demands (entry order k)) ⌝ }
-{
-    let mut planned = [0u32; 16];
-    let mut k = 0;
-    while k < n {
-        let task = order[k];
-        let next = with_demand(planned, k, demands[task]);
-        planned = next;
-        k += 1;
-    }
-    planned
-}
-
-// The choices of the first `n` tasks of an order, put back into table order.
-fn in_table(choices: [u8; 16], order: [usize; 16], n: usize) -> [u8; 16]
-    requires { ⌜ Listed order n ⌝ }
-    ensures { λ r. ⌜ r ≡ spread n order choices ⌝ }
-{
-    let mut placement = [0u8; 16];
-    let mut k = 0;
-    while k < n {
-        let task = order[k];
-        let next = with_core(placement, task, choices[k]);
-        placement = next;
-        k += 1;
-    }
-    placement
-}
-
+// All if nothing is left out, unless the walk was spent.
 fn verdict_of(spent: bool, rejected: u32) -> Verdict
     ensures { λ r. ⌜ r ≡ verdictOf spent rejected ⌝ }
 {
@@ -97,7 +44,7 @@ fn verdict_of(spent: bool, rejected: u32) -> Verdict
 
 // A refused plan: zeros beside the cause.
 fn refused(cause: Cause) -> Allocation
-    ensures { λ r. ⌜ r ≡ refusedFor cause ⌝ }
+    ensures { λ r. ⌜ r ≡ refusedPlan cause ⌝ }
 {
     Allocation {
         verdict: Verdict::Refused(cause),
@@ -107,18 +54,18 @@ fn refused(cause: Cause) -> Allocation
     }
 }
 
-// The plan of a task set: the walk over its tasks in planning order.
-fn plan_tasks(t: TaskSet, limit: u32) -> Allocation
-    requires { ⌜ Ready t ⌝ }
+// The plan of a checked task set: the walk over its tasks in planning order.
+pub fn plan_tasks(t: TaskSet, limit: u32) -> Allocation
+    requires { ⌜ Checked t ⌝ }
     ensures { λ r. ⌜ r ≡ planFor (t .fields) limit ⌝ }
 {
     let n = t.fields.n;
     let order = planning::planning_order(t);
     let demands = t.demands;
-    let planned = in_order(demands, order, n);
-    let found = search::search(planned, n, t.fields.m, t.hyperperiod, limit);
+    let ordered = planning::in_planning_order(demands, order, n);
+    let found = search::search(ordered, n, t.fields.m, t.hyperperiod, limit);
     let choices = found.placement;
-    let placement = in_table(choices, order, n);
+    let placement = planning::in_table_order(choices, order, n);
     let verdict = verdict_of(found.spent, found.rejected);
     Allocation {
         verdict: verdict,
@@ -131,10 +78,10 @@ fn plan_tasks(t: TaskSet, limit: u32) -> Allocation
 // Plans a stored table in at most `limit` steps.
 pub fn plan(table: &[u8], limit: u32) -> Allocation
     ensures answer { λ r. ⌜ r ≡ planOf (now (table .entry)) limit ⌝ }
-    ensures decides { λ r. ⌜ Decides (Valid (now (table .entry))) (Fault (now (table .entry))) (outcomeBy (r .verdict)) ⌝ }
-    ensures promise { λ r. ⌜ (Valid (now (table .entry)) → Promise (fieldsOf (now (table .entry))) limit r) ⌝ }
+    ensures decides { λ r. ⌜ Decides (Valid (now (table .entry))) (conditions (now (table .entry))) (verdictOutcome (r .verdict)) ⌝ }
+    ensures plans { λ r. ⌜ Plans (now (table .entry)) limit r ⌝ }
 {
-    let reading = taskset::read_table(table);
+    let reading = stored::read_table(table);
     let outcome = reading.outcome;
     match outcome {
         Outcome::Refused(cause) => refused(cause),

@@ -1,1 +1,3 @@
+pub mod DemandOrder
 pub mod OrderLaws
+pub mod ListedLaws

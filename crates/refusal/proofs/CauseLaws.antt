@@ -1,9 +1,14 @@
--- The range of the paper's numbers.
-use Prim.Native.Nat.{_≤_}
+-- The definitions are the paper's table, and the range of its numbers.
+use Prim.Native.Nat.{ℕ, _≤_}
+use mathlib.Core.Path.{refl}
 use native.Mathlib.Omega.{arith}
 use Rattle.refusal.specs.Causes.{numberOf}
+use Rattle.refusal.specs.CauseTable.{causeTable, Agrees}
 use Rattle.refusal.specs.declared.Cause.{Cause}
 use Rattle.refusal.specs.declared.Cause.the-variants.{TooShort, TaskCount, CoreCount, Length, Period, Budget, Hyperperiod, Buffer, Placement, CoreNumber, Overload, Slot}
+
+pub table-agrees : (p : ℕ) → Agrees (causeTable p)
+table-agrees p = (refl, refl, (refl, refl, (refl, refl, (refl, refl, (refl, refl, (refl, refl, (refl, refl, (refl, refl, (refl, refl, (refl, refl, (refl, refl, (refl, refl, tt))))))))))))
 
 pub number-range : (c : Cause) → (1 ≤ numberOf c) × (numberOf c ≤ 12)
 number-range TooShort = (omega arith, omega arith)

@@ -1,4 +1,3 @@
 pub mod CauseLaws
 pub mod TestLaws
-pub mod FaultLaws
-pub mod JoinLaws
+pub mod ConditionLaws

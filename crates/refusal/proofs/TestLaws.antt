@@ -1,7 +1,7 @@
 -- Laws of tests made in order.
 use Prim.Native.Nat.{ℕ, zero, suc}
 use mathlib.Core.Path.{_≡_, refl, _∙_, ap, ap₂}
-use mathlib.Core.List.{List, [], _∷_}
+use mathlib.Core.List.{List, [], _∷_, _++_}
 use mathlib.Core.Bool.{Bool, true, false, not}
 use lib.Dec.{eqb}
 use mathlib.Core.Logic.{_⊎_, inl, inr}
@@ -20,7 +20,7 @@ pub outcome-cases : (o : Outcome) → (o ≡ Accepted) ⊎ ((c : Cause) × (o �
 outcome-cases Accepted = inl refl
 outcome-cases (Refused c) = inr (c, refl)
 
-pub same-cause : {o : Outcome} {c d : Cause} → o ≡ Refused c → o ≡ Refused d → c ≡ d
+same-cause : {o : Outcome} {c d : Cause} → o ≡ Refused c → o ≡ Refused d → c ≡ d
 same-cause p q = cc
 
 -- two tests accept if each does
@@ -42,6 +42,11 @@ then-first a b e = rw e
 pub then-refused : (a b : Outcome) (c : Cause) → a ≡ Refused c → a then b ≡ Refused c
 unfolding _then_
 then-refused a b c e = rw e
+
+pub then-assoc : (a b c : Outcome) → (a then b) then c ≡ a then (b then c)
+unfolding _then_
+then-assoc Accepted b c = refl
+then-assoc (Refused d) b c = refl
 
 -- a test whose condition is computed
 pub refuseIf-accepted : (t : Bool) (c : Cause) → refuseIf t c ≡ Accepted → t ≡ false
@@ -81,6 +86,13 @@ pub refuse-found : (k : ℕ) (c : ℕ → Cause) → (k ≡ 0 → ⊥) → refus
 unfolding refuseAt
 refuse-found zero c n = absurd (n refl)
 refuse-found (suc k) c n = refl
+
+-- two lists of tests, one after the other
+pub inOrder-append : (ts us : List Outcome) → inOrder (ts ++ us) ≡ inOrder ts then inOrder us
+unfolding inOrder _then_
+inOrder-append [] us = refl
+inOrder-append (Accepted ∷ ts) us = inOrder-append ts us
+inOrder-append (Refused c ∷ ts) us = refl
 
 -- The steps of a program that makes its tests and joins them.
 refuse-at : (k : ℕ) (c : ℕ → Cause) → refuseIf (not (eqb k 0)) (c k) ≡ refuseAt k c

@@ -1,7 +1,9 @@
--- The paper's number and place of each cause of refusal.
+-- The paper's number and place of each cause of refusal, and of an outcome.
 use Prim.Native.Nat.{ℕ}
 use Rattle.refusal.specs.declared.Cause.{Cause}
 use Rattle.refusal.specs.declared.Cause.the-variants.{TooShort, TaskCount, CoreCount, Length, Period, Budget, Hyperperiod, Buffer, Placement, CoreNumber, Overload, Slot}
+use Rattle.refusal.specs.declared.Outcome.{Outcome}
+use Rattle.refusal.specs.declared.Outcome.the-variants.{Accepted, Refused}
 
 -- the number of a cause
 abbrev pub numberOf : Cause → ℕ
@@ -32,3 +34,12 @@ placeOf (Placement task) = task
 placeOf CoreNumber = 0
 placeOf Overload = 0
 placeOf (Slot slot) = slot
+
+-- number and place of an outcome: 0 and 0 where the call is accepted
+abbrev pub numberIn : Outcome → ℕ
+numberIn Accepted = 0
+numberIn (Refused cause) = numberOf cause
+
+abbrev pub placeIn : Outcome → ℕ
+placeIn Accepted = 0
+placeIn (Refused cause) = placeOf cause

@@ -1,3 +1,4 @@
 pub mod Causes
+pub mod CauseTable
 pub mod Tests
-pub mod Faults
+pub mod Conditions

@@ -1,5 +1,5 @@
 pub mod SlotLoops
 pub mod TickLaws
-pub mod FreshLaws
-pub mod StartLaws
+pub mod PlainLaws
 pub mod RecordLaws
+pub mod AnswerLaws

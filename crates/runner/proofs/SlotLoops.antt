@@ -15,13 +15,13 @@ use Rattle.numbers.specs.First.{first, firstFrom, IsFirst}
 use Rattle.numbers.proofs.FirstLaws.{Seeking, seek-start, looked-on, looked-found, seek-none, Holds, first-zero, first-is, first-clear, first-unique}
 use Rattle.edf.specs.declared.Slot.{Slot}
 use Rattle.edf.specs.declared.Claim.{Claim}
-use Rattle.edf.specs.Slots.{emptySlot, occupied, slotAt, testAt, firstSlot, eachFrom, each}
+use Rattle.edf.specs.Slots.{emptySlot, occupied, slotAt, slotTest, firstSlot, eachFrom, each}
 use Rattle.edf.specs.Earliest.{consIf, soonest, earliest, In}
-use Rattle.edf.specs.Tick.{releaseSlot, release, releaseAll, claimsFrom, chosen, ran, run, pass, passAll}
+use Rattle.edf.specs.Tick.{releaseSlot, release, releaseAll, claimsFrom, chosen, ran, run, advance, advanceAll}
 use Rattle.edf.proofs.SlotLaws.{each-each}
 use Rattle.edf.proofs.EarliestLaws.{soonest-in}
 use Rattle.edf.proofs.ChoiceLaws.{claims-from}
-use Rattle.runner.specs.Parts.{better}
+use Rattle.runner.specs.Parts.{choiceSoFar}
 
 -- An element of a list, whatever stands for one past the end.
 getD-any : {A : Type 0} (l : List A) (i : ℕ) (d e : A) → i < length l → getD l i d ≡ getD l i e
@@ -29,17 +29,17 @@ getD-any [] i d e h = absurd (omega arith)
 getD-any (x ∷ l) zero d e h = refl
 getD-any (x ∷ l) (suc i) d e h = getD-any l i d e (omega arith)
 
--- A loop that looks for the first slot that passes a test: none of those before i does.
+-- A loop that looks for the first slot of which a test holds: it holds of none before i.
 pub record Scanning (test : Slot → Bool) (slots : List Slot) (i : ℕ) : Type 0 where
   pub size : length slots ≡ 16
-  pub seeks : Seeking (testAt test slots) 16 i
+  pub seeks : Seeking (slotTest test slots) 16 i
 
 pub scan-start : (test : Slot → Bool) (slots : List Slot) → length slots ≡ 16 → Scanning test slots 0
-scan-start test slots h = record { size = h; seeks = seek-start (testAt test slots) 16 }
+scan-start test slots h = record { size = h; seeks = seek-start (slotTest test slots) 16 }
 
 module _ {test : Slot → Bool} {slots : List Slot} {i : ℕ} (s : Scanning test slots i) where
-  tested : (d : Slot) {r : Bool} → i < 16 → r ≡ test (getD slots i d) → r ≡ testAt test slots i
-  unfolding testAt
+  tested : (d : Slot) {r : Bool} → i < 16 → r ≡ test (getD slots i d) → r ≡ slotTest test slots i
+  unfolding slotTest
   tested d h e = e ∙ ap test (getD-any slots i d emptySlot (omega (arith, s .size)))
 
   pub scan-next : (d : Slot) {r : Bool} → i < 16 → r ≡ test (getD slots i d) → r ≡ false → Scanning test slots (i + 1)
@@ -67,11 +67,11 @@ first-more p i = go (first p i) refl (p i) refl
         ∙ sym (add-one i)
     go zero e false q = first-clear p (i + 1) (below-more (λ k. p k ≡ false) i (first-zero p i e) q)
 
--- A loop over all slots that keeps the first that passes a test: the first of those before i.
+-- A loop over all slots that keeps the first of which a test holds: the first of those before i.
 pub record Keeping (test : Slot → Bool) (slots : List Slot) (found i : ℕ) : Type 0 where
   pub size : length slots ≡ 16
   pub top : i ≤ 16
-  pub so-far : found ≡ first (testAt test slots) i
+  pub so-far : found ≡ first (slotTest test slots) i
 
 pub keep-start : (test : Slot → Bool) (slots : List Slot) → length slots ≡ 16 → Keeping test slots 0 0
 unfolding first firstFrom
@@ -79,10 +79,10 @@ keep-start test slots h = record { size = h; top = omega arith; so-far = refl }
 
 module _ {test : Slot → Bool} {slots : List Slot} {found i : ℕ} (s : Keeping test slots found i) where
   pub keep-next : (d : Slot) {next : ℕ} → i < 16 → next ≡ cond (eqb found 0 && test (getD slots i d)) (i + 1) found → Keeping test slots next (i + 1)
-  unfolding testAt
+  unfolding slotTest
   keep-next d h e =
       let here : getD slots i d ≡ slotAt slots i = getD-any slots i d emptySlot (omega (arith, s .size)) in
-      record { size = s .size; top = omega arith; so-far = rw (here, s .so-far) at e ∙ sym (first-more (testAt test slots) i) }
+      record { size = s .size; top = omega arith; so-far = rw (here, s .so-far) at e ∙ sym (first-more (slotTest test slots) i) }
 
   pub keep-done : 16 ≤ i → found ≡ firstSlot test slots
   unfolding firstSlot
@@ -116,38 +116,38 @@ module _ {f : ℕ → Slot → Slot} {start slots : List Slot} {i : ℕ} (s : Sw
       sym (rw (drop-of-length-le slots all, append-nil, take-all i slots all) refl) ∙ s .left
 
 -- step 1 as a change of each slot
-module _ (requests : List ℕ) {start slots : List Slot} {i : ℕ} (s : Sweeping (release requests) start slots i) where
-  pub release-next : (d : Slot) {y : Slot} → i < 16 → y ≡ releaseSlot (getD requests i 0) (getD slots i d) → Sweeping (release requests) start (set slots i y) (i + 1)
+module _ (charge : ℕ) (requests : List ℕ) {start slots : List Slot} {i : ℕ} (s : Sweeping (release charge requests) start slots i) where
+  pub release-next : (d : Slot) {y : Slot} → i < 16 → y ≡ releaseSlot charge (getD requests i 0) (getD slots i d) → Sweeping (release charge requests) start (set slots i y) (i + 1)
   unfolding release
   release-next d h e = let back : i + 1 - 1 ≡ i = omega arith in sweep-next s d h (rw back e)
 
-  pub release-done : 16 ≤ i → slots ≡ releaseAll requests start
+  pub release-done : 16 ≤ i → slots ≡ releaseAll charge requests start
   unfolding releaseAll
   release-done h = sweep-done s h
 
 -- steps 2 and 3 as one change of each slot
-unfoldable pub passing : ℕ → ℕ → Slot → Slot
-passing task k s = pass k (run task k s)
+unfoldable pub advancing : ℕ → ℕ → Slot → Slot
+advancing task k s = advance k (run task k s)
 
-module _ (task : ℕ) {start slots : List Slot} {i : ℕ} (s : Sweeping (passing task) start slots i) where
-  pub pass-next : (d : Slot) {y : Slot} → i < 16 → y ≡ pass (i + 1) (run task (i + 1) (getD slots i d)) → Sweeping (passing task) start (set slots i y) (i + 1)
-  unfolding passing
-  pass-next d h e = sweep-next s d h e
+module _ (task : ℕ) {start slots : List Slot} {i : ℕ} (s : Sweeping (advancing task) start slots i) where
+  pub advance-next : (d : Slot) {y : Slot} → i < 16 → y ≡ advance (i + 1) (run task (i + 1) (getD slots i d)) → Sweeping (advancing task) start (set slots i y) (i + 1)
+  unfolding advancing
+  advance-next d h e = sweep-next s d h e
 
-  pub pass-done : 16 ≤ i → slots ≡ passAll task start
-  unfolding passing passAll
-  pass-done h = sweep-done s h ∙ sym (each-each (run task) pass 1 start)
+  pub advance-done : 16 ≤ i → slots ≡ advanceAll task start
+  unfolding advancing advanceAll
+  advance-done h = sweep-done s h ∙ sym (each-each (run task) advance 1 start)
 
 -- a slot with its two fields that fall
-pass-slot : (task k : ℕ) (s : Slot)
+pub advance-slot : (task k : ℕ) (s : Slot)
     → record {
       period = s .period;
       budget = s .budget;
       until = cond (occupied s) (s .until - 1) (s .until);
       remaining = cond (eqb k task) (s .remaining - 1) (s .remaining);
     }
-    ≡ pass k (run task k s)
-pass-slot task k s = go (eqb k task)
+    ≡ advance k (run task k s)
+advance-slot task k s = go (eqb k task)
   where
     falls : (remaining : ℕ) (b : Bool)
         → record { period = s .period; budget = s .budget; until = cond b (s .until - 1) (s .until); remaining = remaining }
@@ -158,14 +158,14 @@ pass-slot task k s = go (eqb k task)
 
     go : (a : Bool)
         → record { period = s .period; budget = s .budget; until = cond (occupied s) (s .until - 1) (s .until); remaining = cond a (s .remaining - 1) (s .remaining) }
-        ≡ pass k (cond a (ran s) s)
+        ≡ advance k (cond a (ran s) s)
     go true = falls (s .remaining - 1) (occupied s)
     go false = falls (s .remaining) (occupied s)
 
-pub pass-fields : (task k : ℕ) (s : Slot) (until remaining : ℕ) → until ≡ cond (occupied s) (s .until - 1) (s .until)
+pub advance-fields : (task k : ℕ) (s : Slot) (until remaining : ℕ) → until ≡ cond (occupied s) (s .until - 1) (s .until)
     → remaining ≡ cond (eqb k task) (s .remaining - 1) (s .remaining)
-    → record { period = s .period; budget = s .budget; until = until; remaining = remaining } ≡ pass k (run task k s)
-pass-fields task k s until remaining e q = rw (e, q) (pass-slot task k s)
+    → record { period = s .period; budget = s .budget; until = until; remaining = remaining } ≡ advance k (run task k s)
+advance-fields task k s until remaining e q = rw (e, q) (advance-slot task k s)
 
 -- A loop that chooses: the best of the claims of the slots before i. Task 0 is none.
 abbrev bestOf : List Claim → Claim
@@ -200,7 +200,7 @@ claims-more k (r ∷ slots) s = go (ltb 0 (r .remaining)) (rw (suc-add k (length
 
 -- the best of the claims with one slot more
 best-more : (k : ℕ) (s : Slot) (cs : List Claim) → ((c : Claim) → In c cs → 1 ≤ c .task)
-    → bestOf (cs ++ consIf (ltb 0 (s .remaining)) (record { task = k; deadline = s .until }) []) ≡ better (bestOf cs) k s
+    → bestOf (cs ++ consIf (ltb 0 (s .remaining)) (record { task = k; deadline = s .until }) []) ≡ choiceSoFar (bestOf cs) k s
 best-more k s cs h = go (ltb 0 (s .remaining)) cs h
   where
     new : Claim
@@ -213,7 +213,7 @@ best-more k s cs h = go (ltb 0 (s .remaining)) cs h
     go true (c ∷ cs) h = soonest-more c cs new ∙ rw (ne-eqb (soonest c cs .task) 0 (λ q. omega (arith, h (soonest c cs) (soonest-in c cs)))) refl
 
 module _ {slots : List Slot} {best : Claim} {i : ℕ} (s : Choosing slots best i) where
-  pub choose-next : (d : Slot) {next : Claim} → i < 16 → next ≡ better best (i + 1) (getD slots i d) → Choosing slots next (i + 1)
+  pub choose-next : (d : Slot) {next : Claim} → i < 16 → next ≡ choiceSoFar best (i + 1) (getD slots i d) → Choosing slots next (i + 1)
   choose-next d h e =
       let b : i < length slots = omega (arith, s .size) in
       let n : 1 + length (take i slots) ≡ suc i = omega (arith, length-take i slots) in

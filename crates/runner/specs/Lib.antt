@@ -1,4 +1,4 @@
 pub mod Answers
 pub mod Parts
-pub mod Starts
 pub mod Records
+pub mod Plain

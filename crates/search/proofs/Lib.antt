@@ -1,4 +1,2 @@
-pub mod Five
-pub mod Zeros
 pub mod State
-pub mod Entry
+pub mod Choices

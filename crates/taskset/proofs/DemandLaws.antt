@@ -8,28 +8,30 @@ use native.Mathlib.Numerals.{add-one}
 use native.Mathlib.Nat.{mul-div-assoc, mul-le-mul-right, mul-div-le, div-mul-cancel, dvd-mul-left-of-dvd, le-trans, le-of-dvd, le-div-iff-mul-le, one-mul, mul-pos}
 use borrow.Author.Tests.{lt-ltb, le-ltb, eq-eqb, ne-eqb}
 use Rattle.numbers.specs.First.{first}
+use Rattle.numbers.specs.Rows.{row, entry}
 use Rattle.numbers.specs.Multiples.{lcm, lcms, IsLcm}
 use Rattle.numbers.proofs.FirstLaws.{Seeking, seek-start, seek-none, looked-on, looked-found, first-clear}
 use Rattle.numbers.proofs.MultipleLaws.{lcms-is, lcms-mono}
-use Rattle.numbers.proofs.RowLaws.{getD-row}
+use Rattle.numbers.proofs.RowLaws.{getD-row, row-beyond}
 use Rattle.taskset.specs.Fields.{periodAt, budgetAt}
 use Rattle.taskset.specs.Demands.{multipleTo, hyperperiodOf, demandOf}
-use Rattle.taskset.specs.Refusals.{passes}
+use Rattle.taskset.specs.Tests.{exceeds}
 use Rattle.taskset.specs.Reading.{multipleOf, taskSetOf}
-use Rattle.taskset.specs.Limits.{Within, Exact}
+use Rattle.taskset.specs.Limits.{Within, Checked, Exact}
 use Rattle.taskset.specs.declared.Fields.{Fields}
 use Rattle.taskset.specs.declared.Multiple.{Multiple}
+use Rattle.taskset.specs.declared.TaskSet.{TaskSet}
 
--- The loop over the periods: h is the least common multiple of the first k, and none of them has passed 1,000,000.
+-- The loop over the periods: h is the least common multiple of the first k, and none of them exceeds 1,000,000.
 pub record Multiplying (f : Fields) (k h : ℕ) : Type 0 where
   pub few : f .n ≤ 16
-  pub seeking : Seeking (passes f) (f .n) k
+  pub seeking : Seeking (exceeds f) (f .n) k
   pub is : h ≡ multipleTo f k
   pub small : h ≤ 1000000
 
 pub multiply-start : (f : Fields) → f .n ≤ 16 → Multiplying f 0 1
 unfolding multipleTo lcms
-multiply-start f h = record { few = h; seeking = seek-start (passes f) (f .n); is = refl; small = omega arith }
+multiply-start f h = record { few = h; seeking = seek-start (exceeds f) (f .n); is = refl; small = omega arith }
 
 module _ {f : Fields} {k h : ℕ} (m : Multiplying f k h) (below : k < f .n) (v : ℕ) (e : v ≡ lcm h (periodAt f k)) where
   next-is : v ≡ multipleTo f (k + 1)
@@ -37,31 +39,31 @@ module _ {f : Fields} {k h : ℕ} (m : Multiplying f k h) (below : k < f .n) (v 
   next-is = rw add-one (e ∙ ap (λ x. lcm x (periodAt f k)) (m .is))
 
   pub multiply-next : v ≤ 1000000 → Multiplying f (k + 1) v
-  unfolding passes
+  unfolding exceeds
   multiply-next s = record {
     few = m .few;
-    seeking = looked-on {p = passes f} {r = false} (m .seeking) below (sym (rw (← next-is) (le-ltb 1000000 v s))) refl;
+    seeking = looked-on {p = exceeds f} {r = false} (m .seeking) below (sym (rw (← next-is) (le-ltb 1000000 v s))) refl;
     is = next-is;
     small = s;
   }
 
-  pub multiply-passed : 1000000 < v → _≡_ {A = Multiple} (record { passed = k + 1; value = 0 }) (multipleOf f)
-  unfolding passes multipleOf
-  multiply-passed s =
-      let p : k + 1 ≡ first (passes f) (f .n) =
-      looked-found {p = passes f} {r = true} (m .seeking) below (sym (rw (← next-is) (lt-ltb 1000000 v s))) refl in
-      let q : 0 ≡ cond (eqb (first (passes f) (f .n)) 0) (hyperperiodOf f) 0 =
-      rw (ne-eqb (first (passes f) (f .n)) 0 (λ z. omega (arith, p))) in
-      λ i. record { passed = p i; value = q i }
+  pub multiply-exceeded : 1000000 < v → _≡_ {A = Multiple} (record { exceeded = k + 1; value = 0 }) (multipleOf f)
+  unfolding exceeds multipleOf
+  multiply-exceeded s =
+      let p : k + 1 ≡ first (exceeds f) (f .n) =
+      looked-found {p = exceeds f} {r = true} (m .seeking) below (sym (rw (← next-is) (lt-ltb 1000000 v s))) refl in
+      let q : 0 ≡ cond (eqb (first (exceeds f) (f .n)) 0) (hyperperiodOf f) 0 =
+      rw (ne-eqb (first (exceeds f) (f .n)) 0 (λ z. omega (arith, p))) in
+      λ i. record { exceeded = p i; value = q i }
 
-pub multiply-done : {f : Fields} {k h : ℕ} → Multiplying f k h → f .n ≤ k → _≡_ {A = Multiple} (record { passed = 0; value = h }) (multipleOf f)
+pub multiply-done : {f : Fields} {k h : ℕ} → Multiplying f k h → f .n ≤ k → _≡_ {A = Multiple} (record { exceeded = 0; value = h }) (multipleOf f)
 unfolding multipleOf hyperperiodOf
 multiply-done {f} {k} {h} m g =
     let d : k ≡ f .n = omega (arith, m .seeking .top) in
-    let p : 0 ≡ first (passes f) (f .n) = seek-none (m .seeking) g in
-    let q : h ≡ cond (eqb (first (passes f) (f .n)) 0) (multipleTo f (f .n)) 0 =
-    rw (eq-eqb (first (passes f) (f .n)) 0 (sym p)) (rw d at (m .is)) in
-    λ i. record { passed = p i; value = q i }
+    let p : 0 ≡ first (exceeds f) (f .n) = seek-none (m .seeking) g in
+    let q : h ≡ cond (eqb (first (exceeds f) (f .n)) 0) (multipleTo f (f .n)) 0 =
+    rw (eq-eqb (first (exceeds f) (f .n)) 0 (sym p)) (rw d at (m .is)) in
+    λ i. record { exceeded = p i; value = q i }
 
 module _ {f : Fields} (w : Within f) where
   -- the hyperperiod is the least common multiple of the periods
@@ -108,16 +110,26 @@ module _ {f : Fields} (w : Within f) where
     hyperperiod = hyperperiod-is;
     demand = λ k h. rw (getD-row 0 (f .n) (demandOf f) k h (w .sizes .tasks .1)) (demand-exact h);
     range = λ k h. rw (getD-row 0 (f .n) (demandOf f) k h (w .sizes .tasks .1)) (demand-range h);
+    beyond = row-beyond 0 (f .n) (demandOf f);
   }
 
-  -- no multiple on the way passes the bound
-  pub passes-none : first (passes f) (f .n) ≡ 0
-  unfolding passes hyperperiodOf multipleTo
-  passes-none =
-      first-clear (passes f) (f .n)
-      (λ k h. le-ltb 1000000 (lcms (periodAt f) (k + 1))
-      (le-trans (lcms-mono (periodAt f) (k + 1) (f .n) (omega arith) (λ j g. w .periods j g .0)) (w .multiple)))
+  -- no multiple on the way exceeds the bound
+  pub multiple-bound : (k : ℕ) → k < f .n → multipleTo f (k + 1) ≤ 1000000
+  unfolding hyperperiodOf multipleTo
+  multiple-bound k h = le-trans (lcms-mono (periodAt f) (k + 1) (f .n) (omega arith) (λ j g. w .periods j g .0)) (w .multiple)
+
+  exceeds-none : first (exceeds f) (f .n) ≡ 0
+  unfolding exceeds
+  exceeds-none = first-clear (exceeds f) (f .n) (λ k h. le-ltb 1000000 (multipleTo f (k + 1)) (multiple-bound k h))
 
   pub multiple-value : (r : Multiple) → r ≡ multipleOf f → r .value ≡ hyperperiodOf f
   unfolding multipleOf
-  multiple-value r e = ap (λ x. x .value) e ∙ rw passes-none
+  multiple-value r e = ap (λ x. x .value) e ∙ rw exceeds-none
+
+-- a checked task set has demands of at most 1,000,000
+pub demands-small : {t : TaskSet} → Checked t → (k : ℕ) → k < t .fields .n → entry (t .demands) k ≤ 1000000
+unfolding taskSetOf
+demands-small {t} c k h =
+    let w = c .within in
+    let e : t .demands ≡ row 0 (t .fields .n) (demandOf (t .fields)) = ap (λ (x : TaskSet). x .demands) (c .is) in
+    rw (e, getD-row 0 (t .fields .n) (demandOf (t .fields)) k h (w .sizes .tasks .1)) (le-trans (demand-range w h .1) (w .multiple))

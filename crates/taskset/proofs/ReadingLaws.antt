@@ -1,90 +1,89 @@
--- What the reader's answer says, and the steps of the program that makes it.
-use Prim.Native.Nat.{ℕ, _≤_}
-use mathlib.Core.Path.{_≡_, refl, sym, _∙_}
-use mathlib.Core.List.{List}
+-- What a reading says, by the outcome of the tests that it goes by.
+use mathlib.Core.Path.{_≡_, refl, sym, _∙_, ap}
 use Rattle.refusal.specs.Tests.{_then_, inOrder}
-use Rattle.refusal.specs.Faults.{Decides}
-use Rattle.refusal.proofs.TestLaws.{then-first, then-refused}
-use Rattle.refusal.proofs.FaultLaws.{inOrder-append}
+use Rattle.refusal.specs.Conditions.{Decides}
 use Rattle.refusal.specs.declared.Cause.{Cause}
 use Rattle.refusal.specs.declared.Outcome.{Outcome}
 use Rattle.refusal.specs.declared.Outcome.the-variants.{Accepted, Refused}
-use Rattle.taskset.specs.Fields.{taskCount, fieldsOf}
-use Rattle.taskset.specs.Refusals.{shapeTests, limitTests, outcomeOf}
-use Rattle.taskset.specs.Reading.{taskSetOf, refusedFor, acceptedWith, answerOf, readingOf}
-use Rattle.taskset.specs.Limits.{Sized, Within, Valid, Fault, Exact}
+use Rattle.refusal.proofs.TestLaws.{accepted≢refused, then-first, then-refused, inOrder-append}
+use Rattle.refusal.proofs.ConditionLaws.{decides, accepts}
+use Rattle.taskset.specs.Tests.{sizeTests, limitTests, fieldsOutcome}
+use Rattle.taskset.specs.Reading.{taskSetOf, noTasks, refusedReading, acceptedReading, readingBy, checkOf}
+use Rattle.taskset.specs.Limits.{Sized, Within, fieldConditions, Checked, RefusedReading, Reads}
 use Rattle.taskset.specs.declared.Fields.{Fields}
 use Rattle.taskset.specs.declared.Reading.{Reading}
 use Rattle.taskset.proofs.DemandLaws.{taskSet-exact}
-use Rattle.taskset.proofs.LimitLaws.{shape-says, limits-say, table-decides}
+use Rattle.taskset.proofs.LimitLaws.{sizes-reported, sizes-kept, limits-reported, limits-kept, fields-tested}
 
 -- the answer's outcome is that of the tests
-answer-outcome : (o : Outcome) (f : Fields) → answerOf o f .outcome ≡ o
-unfolding answerOf refusedFor acceptedWith
-answer-outcome Accepted f = refl
-answer-outcome (Refused c) f = refl
+pub reading-outcome : (o : Outcome) (f : Fields) → readingBy o f .outcome ≡ o
+unfolding readingBy refusedReading acceptedReading
+reading-outcome Accepted f = refl
+reading-outcome (Refused c) f = refl
 
-pub reading-outcome : (s : List ℕ) → readingOf s .outcome ≡ outcomeOf s
-unfolding readingOf
-reading-outcome s = answer-outcome (outcomeOf s) (fieldsOf s)
+-- an accepted answer is the task set of its fields
+pub reading-accepted : (o : Outcome) (f : Fields) → readingBy o f .outcome ≡ Accepted → readingBy o f .tasks ≡ taskSetOf f
+unfolding readingBy refusedReading acceptedReading
+reading-accepted Accepted f e = refl
+reading-accepted (Refused c) f e = absurd (accepted≢refused e refl)
 
-pub reading-decides : (s : List ℕ) → Decides (Valid s) (Fault s) (readingOf s .outcome)
-reading-decides s = rw (reading-outcome s) (table-decides s)
+-- What a reading promises, where the tests accept only fields within the limits.
+module _ (f : Fields) where
+  checked : Within f → Checked (taskSetOf f)
+  unfolding taskSetOf
+  checked w = record { within = w; is = refl }
 
--- an accepted table's answer is its exact task set
-pub reading-accepted : (s : List ℕ) → readingOf s .outcome ≡ Accepted → readingOf s ≡ acceptedWith (fieldsOf s)
-unfolding readingOf answerOf
-reading-accepted s e = let o : outcomeOf s ≡ Accepted = sym (reading-outcome s) ∙ e in rw o
+  zeros : (c : Cause) → RefusedReading (readingBy (Refused c) f)
+  unfolding readingBy refusedReading noTasks
+  zeros c = record { tasks = refl; cores = refl; periods = refl; budgets = refl; hyperperiod = refl; demands = refl }
 
-pub reading-refused : (s : List ℕ) (c : Cause) → readingOf s .outcome ≡ Refused c → readingOf s ≡ refusedFor c
-unfolding readingOf answerOf
-reading-refused s c e = let o : outcomeOf s ≡ Refused c = sym (reading-outcome s) ∙ e in rw o
+  pub reading-promised : (o : Outcome) → (o ≡ Accepted → Within f) → Reads (readingBy o f)
+  unfolding readingBy refusedReading acceptedReading
+  reading-promised Accepted w = record {
+    checked = λ e. checked (w refl);
+    exact = λ e. taskSet-exact (w refl);
+    refused = λ n. absurd (n refl);
+  }
+  reading-promised (Refused c) w = record {
+    checked = λ e. absurd (accepted≢refused e refl);
+    exact = λ e. absurd (accepted≢refused e refl);
+    refused = λ n. zeros c;
+  }
 
-pub reading-exact : (s : List ℕ) → readingOf s .outcome ≡ Accepted → Exact (readingOf s .tasks)
-unfolding acceptedWith
-reading-exact s e = rw (reading-accepted s e) (taskSet-exact (reading-decides s .accepted .0 e .fields))
+-- ---- the steps of the programs
 
--- The steps of the program.
-pub check-refused : (f : Fields) {o : Outcome} (c : Cause) {r : Reading} → r ≡ refusedFor c → o ≡ inOrder (limitTests f) → o ≡ Refused c
-    → r ≡ answerOf (inOrder (limitTests f)) f
-unfolding answerOf
-check-refused f c e p q = rw (← p, q) e
+module _ (f : Fields) where
+  pub limits-say : {o : Outcome} → Sized f → o ≡ inOrder (limitTests f) → o ≡ Accepted → Within f
+  limits-say z p q = limits-kept f z (limits-reported f .accepted (sym p ∙ q))
 
-pub check-accepted : (f : Fields) {o : Outcome} {r : Reading} → r ≡ acceptedWith f → o ≡ inOrder (limitTests f) → o ≡ Accepted
-    → r ≡ answerOf (inOrder (limitTests f)) f
-unfolding answerOf
-check-accepted f e p q = rw (← p, q) e
+  pub sizes-say : {o : Outcome} → o ≡ inOrder (sizeTests f) → o ≡ Accepted → Sized f
+  sizes-say p q = sizes-kept f .0 (sizes-reported f .accepted (sym p ∙ q))
 
-pub check-within : {f : Fields} {o : Outcome} → Sized f → o ≡ inOrder (limitTests f) → o ≡ Accepted → Within f
-check-within {f} z p q = limits-say f z (sym p ∙ q)
+  pub by-refused : {o p : Outcome} {c : Cause} {r : Reading} → r ≡ refusedReading c → o ≡ p → o ≡ Refused c → r ≡ readingBy p f
+  unfolding readingBy
+  by-refused e p q = rw (← p, q) e
 
-module _ (s : List ℕ) {o : Outcome} (p : o ≡ inOrder (shapeTests s)) where
-  joined : outcomeOf s ≡ o then inOrder (limitTests (fieldsOf s))
-  unfolding outcomeOf
-  joined = rw p (inOrder-append (shapeTests s) (limitTests (fieldsOf s)))
+  pub by-accepted : {o p : Outcome} {r : Reading} → r ≡ acceptedReading f → o ≡ p → o ≡ Accepted → r ≡ readingBy p f
+  unfolding readingBy
+  by-accepted e p q = rw (← p, q) e
 
-  pub read-refused : {c : Cause} {r : Reading} → r ≡ refusedFor c → o ≡ Refused c → r ≡ readingOf s
-  unfolding readingOf answerOf
-  read-refused {c} e q = rw (joined ∙ then-refused o _ c q) e
+  -- tests made before those of the limits
+  pub after-refused : (p : Outcome) {o : Outcome} {c : Cause} {r : Reading} → r ≡ refusedReading c → o ≡ Refused c → r ≡ readingBy (o then p) f
+  after-refused p {o} {c} e q = by-refused e refl (then-refused o p c q)
 
-  pub read-checked : {f : Fields} {r : Reading} → o ≡ Accepted → f ≡ fieldsOf s → r ≡ answerOf (inOrder (limitTests f)) f → r ≡ readingOf s
-  unfolding readingOf
-  read-checked q g e = rw (joined ∙ then-first o _ q) (rw g at e)
+  pub after-accepted : (p : Outcome) {o : Outcome} {r : Reading} → r ≡ readingBy p f → o ≡ Accepted → r ≡ readingBy (o then p) f
+  after-accepted p {o} e q = e ∙ ap (λ x. readingBy x f) (sym (then-first o p q))
 
-  pub read-few : o ≡ Accepted → taskCount s ≤ 16
-  unfolding fieldsOf
-  read-few q = shape-says s (sym p ∙ q) .0 .tasks .1
+-- A check of fields alone.
+module _ (f : Fields) {r : Reading} where
+  pub check-answer : {o : Outcome} → o ≡ inOrder (sizeTests f) → r ≡ readingBy (o then inOrder (limitTests f)) f → r ≡ checkOf f
+  unfolding checkOf fieldsOutcome
+  check-answer p e = e ∙ ap (λ x. readingBy x f) (ap (λ x. x then inOrder (limitTests f)) p ∙ sym (inOrder-append (sizeTests f) (limitTests f)))
 
-  pub read-sized : {f : Fields} → o ≡ Accepted → f ≡ fieldsOf s → Sized f
-  read-sized q g = rw g (shape-says s (sym p ∙ q) .0)
+  pub check-decides : r ≡ checkOf f → Decides (Within f) (fieldConditions f) (r .outcome)
+  unfolding checkOf
+  check-decides e = rw (e, reading-outcome (fieldsOutcome f) f) (decides (fields-tested f))
 
--- what the promise says of an answer that equals the definition
-pub decided : (s : List ℕ) {r : Reading} → r ≡ readingOf s → Decides (Valid s) (Fault s) (r .outcome)
-decided s e = rw e (reading-decides s)
-
-pub exact : (s : List ℕ) {r : Reading} → r ≡ readingOf s → r .outcome ≡ Accepted → Exact (r .tasks)
-exact s e = rw e (reading-exact s)
-
-pub reading-few : (s : List ℕ) {r : Reading} → r ≡ readingOf s → r .outcome ≡ Accepted → r .tasks .fields .n ≤ 16
-unfolding acceptedWith taskSetOf
-reading-few s e = rw e (λ a. rw (reading-accepted s a) (reading-decides s .accepted .0 a .fields .sizes .tasks .1))
+  pub check-reads : r ≡ checkOf f → Reads r
+  unfolding checkOf
+  check-reads e = rw e (reading-promised f (fieldsOutcome f) (accepts (decides (fields-tested f)) .0))

@@ -1,5 +1,5 @@
 pub mod Fields
 pub mod Demands
-pub mod Refusals
+pub mod Tests
 pub mod Reading
 pub mod Limits

@@ -1,18 +1,21 @@
--- The limits of a table and its faults as plain statements, with no chain of tests.
+-- The limits of fields and their refusals as plain statements, and what a reading is promised.
 use Prim.Native.Nat.{ℕ, _+_, _*_, _≤_, _<_}
 use mathlib.Core.Path.{_≡_}
-use mathlib.Core.List.{List}
-use lib.ListN.{length}
+use mathlib.Core.List.{List, [], _∷_, _++_}
+use mathlib.Core.Logic.{_≢_}
+use lib.ListN.{replicate}
 use Rattle.numbers.specs.Bounds.{Outside}
-use Rattle.numbers.specs.First.{FirstAt}
 use Rattle.numbers.specs.Multiples.{IsLcm}
 use Rattle.numbers.specs.Rows.{entry}
-use Rattle.refusal.specs.declared.Cause.{Cause}
-use Rattle.refusal.specs.declared.Cause.the-variants.{TooShort, TaskCount, CoreCount, Length, Period, Budget, Hyperperiod, Buffer, Placement, CoreNumber, Overload, Slot}
-use Rattle.taskset.specs.Fields.{taskCount, coreCount, fieldsOf, periodAt, budgetAt}
-use Rattle.taskset.specs.Demands.{multipleTo, hyperperiodOf}
+use Rattle.refusal.specs.Causes.{numberIn}
+use Rattle.refusal.specs.Conditions.{Condition, only, at}
+use Rattle.refusal.specs.declared.Outcome.the-variants.{Accepted}
+use Rattle.taskset.specs.Fields.{periodAt, budgetAt}
+use Rattle.taskset.specs.Demands.{hyperperiodOf}
+use Rattle.taskset.specs.Reading.{taskSetOf}
 use Rattle.taskset.specs.declared.Fields.{Fields}
 use Rattle.taskset.specs.declared.TaskSet.{TaskSet}
+use Rattle.taskset.specs.declared.Reading.{Reading}
 
 -- The numbers of tasks and cores within their limits.
 pub record Sized (f : Fields) : Type 0 where
@@ -26,29 +29,50 @@ pub record Within (f : Fields) : Type 0 where
   pub budgets : (k : ℕ) → k < f .n → (1 ≤ budgetAt f k) × (budgetAt f k ≤ periodAt f k)
   pub multiple : hyperperiodOf f ≤ 1000000
 
--- A table within the paper's limits: the exact length, and fields within theirs.
-pub record Valid (s : List ℕ) : Type 0 where
-  pub exact : length s ≡ 2 + 8 * taskCount s
-  pub fields : Within (fieldsOf s)
+-- The least common multiple of the periods up to the task at k is above 1,000,000.
+abbrev pub Exceeds : Fields → ℕ → Type 0
+Exceeds f k = (h : ℕ) × IsLcm (periodAt f) (k + 1) h × (1000000 < h)
 
--- The table has the fault that the cause names, at the place of the first such task.
-abbrev pub Fault : List ℕ → Cause → Type 0
-Fault s TooShort = length s < 2
-Fault s TaskCount = Outside 1 16 (taskCount s)
-Fault s CoreCount = Outside 1 4 (coreCount s)
-Fault s Length = length s ≡ 2 + 8 * taskCount s → ⊥
-Fault s (Period task) = FirstAt (λ k. Outside 1 10000 (periodAt (fieldsOf s) k)) (taskCount s) task
-Fault s (Budget task) = FirstAt (λ k. Outside 1 (periodAt (fieldsOf s) k) (budgetAt (fieldsOf s) k)) (taskCount s) task
-Fault s (Hyperperiod task) = FirstAt (λ k. 1000000 < multipleTo (fieldsOf s) (k + 1)) (taskCount s) task
-Fault s Buffer = ⊥
-Fault s (Placement task) = ⊥
-Fault s CoreNumber = ⊥
-Fault s Overload = ⊥
-Fault s (Slot slot) = ⊥
+-- The refusals of the sizes: numbers 2 and 3.
+abbrev pub sizes : Fields → List Condition
+sizes f = only 2 (Outside 1 16 (f .n)) ∷ only 3 (Outside 1 4 (f .m)) ∷ []
+
+-- The refusals of the limits: numbers 5 to 7, all periods before all budgets.
+abbrev pub limits : Fields → List Condition
+limits f =
+    at 5 (λ k. Outside 1 10000 (periodAt f k)) (f .n)
+    ∷ at 6 (λ k. Outside 1 (periodAt f k) (budgetAt f k)) (f .n)
+    ∷ at 7 (Exceeds f) (f .n)
+    ∷ []
+
+-- The refusals of fields, in the order of their tests.
+abbrev pub fieldConditions : Fields → List Condition
+fieldConditions f = sizes f ++ limits f
+
+-- A task set as a check makes it: of fields within the limits, with their hyperperiod and demands.
+pub record Checked (t : TaskSet) : Type 0 where
+  pub within : Within (t .fields)
+  pub is : t ≡ taskSetOf (t .fields)
 
 -- A task set that is exact: its hyperperiod is the least common multiple of the periods,
--- and each demand times its period is the budget times the hyperperiod.
+-- each demand times its period is the budget times the hyperperiod, and entries beyond n are 0.
 pub record Exact (t : TaskSet) : Type 0 where
   pub hyperperiod : IsLcm (periodAt (t .fields)) (t .fields .n) (t .hyperperiod)
   pub demand : (k : ℕ) → k < t .fields .n → entry (t .demands) k * periodAt (t .fields) k ≡ budgetAt (t .fields) k * t .hyperperiod
   pub range : (k : ℕ) → k < t .fields .n → (1 ≤ entry (t .demands) k) × (entry (t .demands) k ≤ t .hyperperiod)
+  pub beyond : (k : ℕ) → t .fields .n ≤ k → entry (t .demands) k ≡ 0
+
+-- A refused reading is all zeros beside its cause.
+pub record RefusedReading (r : Reading) : Type 0 where
+  pub tasks : r .tasks .fields .n ≡ 0
+  pub cores : r .tasks .fields .m ≡ 0
+  pub periods : r .tasks .fields .periods ≡ replicate 16 0
+  pub budgets : r .tasks .fields .budgets ≡ replicate 16 0
+  pub hyperperiod : r .tasks .hyperperiod ≡ 0
+  pub demands : r .tasks .demands ≡ replicate 16 0
+
+-- What is promised of a reading: an accepted one is a checked and exact task set, a refused one is zeros.
+pub record Reads (r : Reading) : Type 0 where
+  pub checked : r .outcome ≡ Accepted → Checked (r .tasks)
+  pub exact : r .outcome ≡ Accepted → Exact (r .tasks)
+  pub refused : numberIn (r .outcome) ≢ 0 → RefusedReading r

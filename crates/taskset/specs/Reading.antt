@@ -1,6 +1,4 @@
--- What reading a stored table gives.
-use Prim.Native.Nat.{ℕ}
-use mathlib.Core.List.{List}
+-- What a check of fields gives.
 use mathlib.Core.Bool.{cond}
 use lib.Dec.{eqb}
 use lib.ListN.{replicate}
@@ -9,19 +7,18 @@ use Rattle.numbers.specs.Rows.{row}
 use Rattle.refusal.specs.declared.Cause.{Cause}
 use Rattle.refusal.specs.declared.Outcome.{Outcome}
 use Rattle.refusal.specs.declared.Outcome.the-variants.{Accepted, Refused}
-use Rattle.taskset.specs.Fields.{fieldsOf}
 use Rattle.taskset.specs.Demands.{hyperperiodOf, demandOf}
-use Rattle.taskset.specs.Refusals.{passes, outcomeOf}
+use Rattle.taskset.specs.Tests.{exceeds, fieldsOutcome}
 use Rattle.taskset.specs.declared.Fields.{Fields}
 use Rattle.taskset.specs.declared.Multiple.{Multiple}
 use Rattle.taskset.specs.declared.TaskSet.{TaskSet}
 use Rattle.taskset.specs.declared.Reading.{Reading}
 
--- the first task at which the least common multiple passes 1,000,000, or the hyperperiod where there is none
+-- the first task at which the least common multiple exceeds 1,000,000, or the hyperperiod where there is none
 unfoldable pub multipleOf : Fields → Multiple
 multipleOf f = record {
-  passed = first (passes f) (f .n);
-  value = cond (eqb (first (passes f) (f .n)) 0) (hyperperiodOf f) 0;
+  exceeded = first (exceeds f) (f .n);
+  value = cond (eqb (first (exceeds f) (f .n)) 0) (hyperperiodOf f) 0;
 }
 
 -- the task set of fields within the limits
@@ -36,19 +33,19 @@ noTasks = record {
   demands = replicate 16 0;
 }
 
--- the answer where a table is refused: zeros beside the cause
-unfoldable pub refusedFor : Cause → Reading
-refusedFor cause = record { outcome = Refused cause; tasks = noTasks }
+-- the answer where fields are refused: zeros beside the cause
+unfoldable pub refusedReading : Cause → Reading
+refusedReading cause = record { outcome = Refused cause; tasks = noTasks }
 
--- the answer where its fields are accepted
-unfoldable pub acceptedWith : Fields → Reading
-acceptedWith f = record { outcome = Accepted; tasks = taskSetOf f }
+-- the answer where they are accepted
+unfoldable pub acceptedReading : Fields → Reading
+acceptedReading f = record { outcome = Accepted; tasks = taskSetOf f }
 
 -- the whole answer, by the outcome of the tests
-unfoldable pub answerOf : Outcome → Fields → Reading
-answerOf (Refused cause) f = refusedFor cause
-answerOf Accepted f = acceptedWith f
+unfoldable pub readingBy : Outcome → Fields → Reading
+readingBy (Refused cause) f = refusedReading cause
+readingBy Accepted f = acceptedReading f
 
--- the answer for a table
-unfoldable pub readingOf : List ℕ → Reading
-readingOf s = answerOf (outcomeOf s) (fieldsOf s)
+-- the answer for fields alone
+unfoldable pub checkOf : Fields → Reading
+checkOf f = readingBy (fieldsOutcome f) f

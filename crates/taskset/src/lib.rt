@@ -1,22 +1,20 @@
-// The reader of a stored table: bytes become an exact task set, or a refusal.
+// A task set: the check of its fields, its hyperperiod and its exact demands, or a refusal.
 ghost use mathlib.Core.Path.{_≡_};
-ghost use Prim.Native.Nat.{_+_, _/_, _≤_, _<_};
-ghost use lib.ListN.{length, getD, set};
+ghost use Prim.Native.Nat.{_/_, _≤_, _<_};
 ghost use Rattle.numbers.specs.First.{first};
 ghost use Rattle.numbers.specs.Rows.{row};
-ghost use Rattle.refusal.specs.Tests.{inOrder};
-ghost use Rattle.refusal.specs.Faults.{Decides};
+ghost use Rattle.refusal.specs.Tests.{_then_, inOrder};
+ghost use Rattle.refusal.specs.Conditions.{Decides};
 ghost use Rattle.refusal.specs.declared.Outcome.the-variants.{Accepted};
-ghost use Rattle.wire.specs.Bytes.{wordAt};
-ghost use Rattle.taskset.specs.Fields.{fieldsOf};
 ghost use Rattle.taskset.specs.Demands.{hyperperiodOf, demandOf};
-ghost use Rattle.taskset.specs.Refusals.{shortTest, tasksTest, coresTest, lengthTest, badPeriod, badBudget, passes, periodsTest, budgetsTest, hyperperiodTest, shapeTests, limitTests};
-ghost use Rattle.taskset.specs.Reading.{multipleOf, refusedFor, acceptedWith, answerOf, readingOf};
-ghost use Rattle.taskset.specs.Limits.{Sized, Within, Valid, Fault, Exact};
+ghost use Rattle.taskset.specs.Tests.{tasksTest, coresTest, badPeriod, badBudget, periodsTest, budgetsTest, hyperperiodTest, sizeTests, limitTests};
+ghost use Rattle.taskset.specs.Reading.{multipleOf, refusedReading, acceptedReading, readingBy, checkOf};
+ghost use Rattle.taskset.specs.Limits.{Sized, Within, fieldConditions, Reads};
 use refusal::Cause;
 use refusal::Outcome;
 
-// What a table says: its numbers of tasks and cores, and a period and a budget for each task. Entries beyond n are 0.
+// What a stored table says: its numbers of tasks and cores, and a period and a budget (the paper's time) for each task.
+// A reader makes the entries beyond n 0.
 pub struct Fields {
     pub n: usize,
     pub m: usize,
@@ -24,114 +22,46 @@ pub struct Fields {
     pub budgets: [u32; 16],
 }
 
-// A task set: fields within the limits, their hyperperiod and the exact demand of each task. Entries beyond n are 0.
+// A task set: fields within the limits, their hyperperiod (the paper's frame H) and the exact demand (its weight) of each task.
 pub struct TaskSet {
     pub fields: Fields,
     pub hyperperiod: u32,
     pub demands: [u32; 16],
 }
 
-// The reader's answer: a refusal has zeros beside its cause.
+// The answer of a check of fields, and so of every reader: a refusal has zeros beside its cause.
 pub struct Reading {
     pub outcome: Outcome,
     pub tasks: TaskSet,
 }
 
-// The least common multiple of the periods, or the first task, from 1, at which it passes 1,000,000.
+// The least common multiple of the periods, or the first task, from 1, at which it exceeds 1,000,000.
 pub struct Multiple {
-    pub passed: usize,
+    pub exceeded: usize,
     pub value: u32,
 }
 
-// The row with one entry changed.
-fn with_entry(entries: [u32; 16], k: usize, x: u32) -> [u32; 16]
-    requires { ⌜ k < 16 ⌝ }
-    ensures { λ r. ⌜ r ≡ set entries k x ⌝ }
-{
-    let mut changed = entries;
-    changed[k] = x;
-    changed
-}
-
-// The first `n` numbers of `s` from `at`, and zeros up to sixteen.
-fn words(s: &[u8], at: usize, n: usize) -> [u32; 16]
-    requires { ⌜ (n ≤ 16) × (at < 1024) ⌝ }
-    ensures { λ r. ⌜ r ≡ row 0 n (wordAt (now (s .entry)) at) ⌝ }
-{
-    let mut entries = [0u32; 16];
-    let mut k = 0;
-    while k < n {
-        let next = with_entry(entries, k, wire::word(s, at + 4 * k));
-        entries = next;
-        k += 1;
-    }
-    entries
-}
-
-// The fields of a table of the right shape.
-fn decode(s: &[u8]) -> Fields
-    requires { ⌜ getD (now s) 0 0 ≤ 16 ⌝ }
-    ensures { λ r. ⌜ r ≡ fieldsOf (now (s .entry)) ⌝ }
-{
-    let n = wire::size(wire::byte(s, 0));
-    let m = wire::size(wire::byte(s, 1));
-    let periods = words(s, 2, n);
-    let budgets = words(s, 2 + 4 * n, n);
-    Fields {
-        n: n,
-        m: m,
-        periods: periods,
-        budgets: budgets,
-    }
-}
-
-// Number 1.
-fn short_test(s: &[u8]) -> Outcome
-    ensures { λ r. ⌜ r ≡ shortTest (now (s .entry)) ⌝ }
-{
-    refusal::refuse_if(s.len() < 2, Cause::TooShort)
-}
-
 // Number 2.
-fn tasks_test(s: &[u8]) -> Outcome
-    ensures { λ r. ⌜ r ≡ tasksTest (now (s .entry)) ⌝ }
+fn tasks_test(f: Fields) -> Outcome
+    ensures { λ r. ⌜ r ≡ tasksTest f ⌝ }
 {
-    refusal::refuse_if(
-        numbers::outside(1, 16, wire::wide(wire::byte(s, 0))),
-        Cause::TaskCount,
-    )
+    refusal::refuse_if(numbers::outside(1, 16, f.n as u64), Cause::TaskCount)
 }
 
 // Number 3.
-fn cores_test(s: &[u8]) -> Outcome
-    ensures { λ r. ⌜ r ≡ coresTest (now (s .entry)) ⌝ }
+fn cores_test(f: Fields) -> Outcome
+    ensures { λ r. ⌜ r ≡ coresTest f ⌝ }
 {
-    refusal::refuse_if(
-        numbers::outside(1, 4, wire::wide(wire::byte(s, 1))),
-        Cause::CoreCount,
-    )
+    refusal::refuse_if(numbers::outside(1, 4, f.m as u64), Cause::CoreCount)
 }
 
-// Number 4.
-fn length_test(s: &[u8]) -> Outcome
-    ensures { λ r. ⌜ r ≡ lengthTest (now (s .entry)) ⌝ }
+// The tests of the sizes: numbers 2 and 3.
+pub fn size_tests(f: Fields) -> Outcome
+    ensures { λ r. ⌜ r ≡ inOrder (sizeTests f) ⌝ }
 {
-    refusal::refuse_if(
-        s.len() != 2 + 8 * wire::size(wire::byte(s, 0)),
-        Cause::Length,
-    )
-}
-
-// Numbers 1 to 4.
-fn shape_tests(s: &[u8]) -> Outcome
-    ensures { λ r. ⌜ r ≡ inOrder (shapeTests (now (s .entry))) ⌝ }
-{
-    let short = short_test(s);
-    let tasks = tasks_test(s);
-    let cores = cores_test(s);
-    let exact = length_test(s);
-    let sizes = refusal::then(tasks, refusal::then(cores, exact));
-    refusal::then(short, sizes)
+    let tasks = tasks_test(f);
+    let cores = cores_test(f);
+    refusal::then(tasks, cores)
 }
 
 // Whether the period of task `k` is outside 1 to 10,000.
@@ -139,7 +69,7 @@ fn is_bad_period(f: Fields, k: usize) -> bool
     requires { ⌜ k < 16 ⌝ }
     ensures { λ r. ⌜ r ≡ badPeriod f k ⌝ }
 {
-    numbers::outside(1, 10000, f.periods[k])
+    numbers::outside(1, 10000, f.periods[k] as u64)
 }
 
 // Whether the budget of task `k` is 0 or above its period.
@@ -147,9 +77,7 @@ fn is_bad_budget(f: Fields, k: usize) -> bool
     requires { ⌜ k < 16 ⌝ }
     ensures { λ r. ⌜ r ≡ badBudget f k ⌝ }
 {
-    let period = f.periods[k];
-    let budget = f.budgets[k];
-    (budget < 1) | (period < budget)
+    numbers::outside(1, f.periods[k] as u64, f.budgets[k] as u64)
 }
 
 // The first task, from 1, with a bad period; 0 if there is none.
@@ -182,7 +110,7 @@ fn first_bad_budget(f: Fields) -> usize
     0
 }
 
-// The least common multiple of the periods, task by task until it passes 1,000,000.
+// The least common multiple of the periods, task by task until it exceeds 1,000,000.
 fn common_multiple(f: Fields) -> Multiple
     requires { ⌜ f .n ≤ 16 ⌝ }
     ensures { λ r. ⌜ r ≡ multipleOf f ⌝ }
@@ -193,7 +121,7 @@ fn common_multiple(f: Fields) -> Multiple
         let next = numbers::lcm(h, f.periods[k]);
         if 1000000 < next {
             return Multiple {
-                passed: k + 1,
+                exceeded: k + 1,
                 value: 0,
             };
         }
@@ -201,7 +129,7 @@ fn common_multiple(f: Fields) -> Multiple
         k += 1;
     }
     Multiple {
-        passed: 0,
+        exceeded: 0,
         value: h,
     }
 }
@@ -229,7 +157,7 @@ fn hyperperiod_test(f: Fields) -> Outcome
     requires { ⌜ f .n ≤ 16 ⌝ }
     ensures { λ r. ⌜ r ≡ hyperperiodTest f ⌝ }
 {
-    let task = common_multiple(f).passed;
+    let task = common_multiple(f).exceeded;
     refusal::refuse_if(task != 0, Cause::Hyperperiod(task))
 }
 
@@ -269,7 +197,7 @@ fn demands(f: Fields, h: u32) -> [u32; 16]
     let mut entries = [0u32; 16];
     let mut k = 0;
     while k < f.n {
-        let next = with_entry(entries, k, demand(f, h, k));
+        let next = numbers::with_number(entries, k, demand(f, h, k));
         entries = next;
         k += 1;
     }
@@ -278,7 +206,7 @@ fn demands(f: Fields, h: u32) -> [u32; 16]
 
 // A refusal, with zeros beside its cause.
 fn refused(cause: Cause) -> Reading
-    ensures { λ r. ⌜ r ≡ refusedFor cause ⌝ }
+    ensures { λ r. ⌜ r ≡ refusedReading cause ⌝ }
 {
     let fields = Fields {
         n: 0,
@@ -300,7 +228,7 @@ fn refused(cause: Cause) -> Reading
 // The task set of fields within the limits.
 fn accepted(f: Fields) -> Reading
     requires { ⌜ Within f ⌝ }
-    ensures { λ r. ⌜ r ≡ acceptedWith f ⌝ }
+    ensures { λ r. ⌜ r ≡ acceptedReading f ⌝ }
 {
     let h = common_multiple(f).value;
     let d = demands(f, h);
@@ -316,9 +244,9 @@ fn accepted(f: Fields) -> Reading
 }
 
 // The answer for fields whose sizes are right.
-fn check_fields(f: Fields) -> Reading
+fn check_limits(f: Fields) -> Reading
     requires { ⌜ Sized f ⌝ }
-    ensures { λ r. ⌜ r ≡ answerOf (inOrder (limitTests f)) f ⌝ }
+    ensures { λ r. ⌜ r ≡ readingBy (inOrder (limitTests f)) f ⌝ }
 {
     let limits = limit_tests(f);
     match limits {
@@ -327,15 +255,23 @@ fn check_fields(f: Fields) -> Reading
     }
 }
 
-// Reads a stored table: its task set, or the first cause of refusal.
-pub fn read_table(table: &[u8]) -> Reading
-    ensures answer { λ r. ⌜ r ≡ readingOf (now (table .entry)) ⌝ }
-    ensures decides { λ r. ⌜ Decides (Valid (now (table .entry))) (Fault (now (table .entry))) (r .outcome) ⌝ }
-    ensures exact { λ r. ⌜ (r .outcome ≡ Accepted → Exact (r .tasks)) ⌝ }
+// The answer for fields after tests that a stored form makes before those of the limits; they include those of the sizes.
+pub fn check_after(before: Outcome, f: Fields) -> Reading
+    requires { ⌜ (before ≡ Accepted → Sized f) ⌝ }
+    ensures { λ r. ⌜ r ≡ readingBy (before then inOrder (limitTests f)) f ⌝ }
 {
-    let shape = shape_tests(table);
-    match shape {
+    match before {
         Outcome::Refused(cause) => refused(cause),
-        Outcome::Accepted => check_fields(decode(table)),
+        Outcome::Accepted => check_limits(f),
     }
+}
+
+// Checks fields: their task set, or the first cause of refusal.
+pub fn check(f: Fields) -> Reading
+    ensures answer { λ r. ⌜ r ≡ checkOf f ⌝ }
+    ensures decides { λ r. ⌜ Decides (Within f) (fieldConditions f) (r .outcome) ⌝ }
+    ensures reads { λ r. ⌜ Reads r ⌝ }
+{
+    let sizes = size_tests(f);
+    check_after(sizes, f)
 }

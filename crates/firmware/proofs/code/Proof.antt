@@ -1,5 +1,5 @@
 -- Each verdict has its number; a refusal's is at most 112.
-use Rattle.firmware.proofs.EntryLaws.{code-fits, code-refused}
+use Rattle.firmware.proofs.CallLaws.{code-fits, code-refused}
 use borrow.Author.Needs.{needs}
 use Rattle.firmware.proofs.code.Statement.{statement}
 use Rattle.firmware.proofs.code.Tie as tie

@@ -1,11 +1,17 @@
--- A refusal leaves the buffer; otherwise code and buffer are those of the planner's answer.
-use Rattle.firmware.proofs.EntryLaws.{entry-few, entry-room, entry-refused, entry-planned}
+-- A refusal leaves the buffer; otherwise code and buffer are those of the plan.
+use Rattle.firmware.proofs.CallLaws.{read-well, call-few, call-room, call-refused, call-planned}
 use borrow.Author.Needs.{needs}
 use Rattle.firmware.proofs.millplan_plan.Statement.{statement}
 use Rattle.firmware.proofs.millplan_plan.Tie as tie
 
-entry-tests-requires : tie.Need-entry-tests-requires
-entry-tests-requires c κs = search needs
+read-table-requires : tie.Need-read-table-requires
+read-table-requires c κs = search needs
+
+buffer-test-requires : tie.Need-buffer-test-requires
+buffer-test-requires c κs = search needs
+
+then-requires : tie.Need-then-requires
+then-requires c κs = search needs
 
 enum-known-outcome : tie.Need-enum-known-outcome
 enum-known-outcome c = search needs
@@ -16,41 +22,40 @@ code-requires c κs = search needs
 enum-told : tie.Need-enum-told
 enum-told c = search needs
 
-plan-requires : tie.Need-plan-requires
-plan-requires c κs = search needs
-
-task-count-requires : tie.Need-task-count-requires
-task-count-requires c κs = search needs
+plan-tasks-requires : tie.Need-plan-tasks-requires
+plan-tasks-requires c κs = c .before .before .before .before .before .read-table .ensures .1 .1 .checked (read-well _ _ (c .before .before .then .ensures) (cc))
 
 write-front-requires : tie.Need-write-front-requires
-write-front-requires c κs = search (needs, entry-few, entry-room)
+write-front-requires c κs =
+    let e = c .before .before .before .before .before .before .before .before .read-table .ensures .0 in
+    let f = c .before .before .before .before .before .before .buffer-test .ensures in
+    (call-few _ _ e f (c .before .before .before .before .before .then .ensures) (cc), call-room _ _ e f (c .before .before .before .before .before .then .ensures) (cc))
 
 code-requires-2 : tie.Need-code-requires-2
 code-requires-2 c κs = search needs
 
 returns : tie.Need-returns
-returns c = entry-refused _ _ _ (c .before .before .before .before .entry-tests .ensures) (c .before .before .outcome .given .1) (c .code .ensures)
+returns c =
+    call-refused _ _ _ (c .before .before .before .before .before .before .before .read-table .ensures .0) (c .before .before .before .before .before .buffer-test .ensures) (c .before .before .before .before .then .ensures) (c .before .before .outcome .given .1) (c .code .ensures)
 
 same-length : tie.Need-same-length
 same-length c = search needs
 
 returns-2 : tie.Need-returns-2
 returns-2 c =
-    let w = c .before .before .before in
-    let p = w .before .before .before .before in
-    entry-planned _ _ _ (p .before .before .before .entry-tests .ensures) (cc) (p .plan .ensures .0) (p .plan .ensures .1 .0) (p .plan .ensures .1 .1) (search needs)
-    (w .before .task-count .ensures) (w .write-front .ensures) (c .code2 .ensures)
+    call-planned _ _ _ (c .before .before .before .before .before .before .before .before .before .before .before .before .read-table .ensures .0) (c .before .before .before .before .before .before .before .before .before .before .buffer-test .ensures) (c .before .before .before .before .before .before .before .before .before .then .ensures) (cc) (c .before .before .before .before .before .before .plan-tasks .ensures) (search needs) (c .code2 .ensures) (c .before .before .before .write-front .ensures)
 
 pub millplan-plan-spec : {M : Type 1} → statement M
 millplan-plan-spec =
     tie.close
     (tie.spec
-    entry-tests-requires
+    read-table-requires
+    buffer-test-requires
+    then-requires
     enum-known-outcome
     code-requires
     enum-told
-    plan-requires
-    task-count-requires
+    plan-tasks-requires
     write-front-requires
     code-requires-2
     returns

@@ -1,6 +1,6 @@
 -- The reader decides; an accepted table is planned.
-use Rattle.planner.proofs.PlanLaws.{plan-refused, ready, plan-accepted}
-use Rattle.planner.proofs.PromiseLaws.{decided, keeps-promise}
+use Rattle.planner.proofs.PlanLaws.{plan-refused, plan-accepted}
+use Rattle.planner.proofs.PromiseLaws.{plan-decides, plan-promised}
 use borrow.Author.Needs.{needs}
 use Rattle.planner.proofs.plan.Statement.{statement}
 use Rattle.planner.proofs.plan.Tie as tie
@@ -18,17 +18,17 @@ enum-told : tie.Need-enum-told
 enum-told c = search needs
 
 plan-tasks-requires : tie.Need-plan-tasks-requires
-plan-tasks-requires c κs = ready _ (c .before .before .read-table .ensures .0) (cc)
+plan-tasks-requires c κs = c .before .before .read-table .ensures .1 .1 .checked (cc)
 
 returns : tie.Need-returns
 returns c =
     let e = plan-refused _ (c .before .before .before .before .read-table .ensures .0) _ (c .refused .ensures) (cc) in
-    (e, (decided _ _ e, keeps-promise _ _ e))
+    (e, (plan-decides _ _ e, plan-promised _ _ e))
 
 returns-2 : tie.Need-returns-2
 returns-2 c =
-    let e = plan-accepted _ (c .before .before .before .read-table .ensures .0) (cc) _ (c .plan-tasks .ensures) in
-    (e, (decided _ _ e, keeps-promise _ _ e))
+    let e = plan-accepted _ (c .before .before .before .read-table .ensures .0) _ (cc) (c .plan-tasks .ensures) in
+    (e, (plan-decides _ _ e, plan-promised _ _ e))
 
 pub plan-spec : {M : Type 1} → statement M
 plan-spec =

@@ -7,30 +7,30 @@ use Rattle.planner.proofs.plan_tasks.Tie as tie
 planning-order-requires : tie.Need-planning-order-requires
 planning-order-requires c κs = search needs
 
-in-order-requires : tie.Need-in-order-requires
-in-order-requires c κs = order-listed (c .before .before .pre) (c .before .planning-order .ensures .0)
+in-planning-order-requires : tie.Need-in-planning-order-requires
+in-planning-order-requires c κs = order-listed (c .before .before .pre) (c .before .planning-order .ensures .0)
 
 search-requires : tie.Need-search-requires
-search-requires c κs = ranges (c .before .before .before .pre) (c .before .before .planning-order .ensures .0) (c .in-order .ensures)
+search-requires c κs = ranges (c .before .before .before .pre) (c .before .before .planning-order .ensures .0) (c .in-planning-order .ensures)
 
-in-table-requires : tie.Need-in-table-requires
-in-table-requires c κs = order-listed (c .before .before .before .before .before .pre) (c .before .before .before .before .planning-order .ensures .0)
+in-table-order-requires : tie.Need-in-table-order-requires
+in-table-order-requires c κs = order-listed (c .before .before .before .before .before .pre) (c .before .before .before .before .planning-order .ensures .0)
 
 verdict-of-requires : tie.Need-verdict-of-requires
 verdict-of-requires c κs = search needs
 
 returns : tie.Need-returns
 returns c =
-    plan-is (c .before .before .before .before .before .before .before .pre) (c .before .before .before .before .before .before .planning-order .ensures .0) (c .before .before .before .before .in-order .ensures) _ (c .before .before .before .search .ensures)
-    (c .before .in-table .ensures) (c .verdict-of .ensures)
+    plan-is (c .before .before .before .before .before .before .before .pre) (c .before .before .before .before .before .before .planning-order .ensures .0) (c .before .before .before .before .in-planning-order .ensures) _ (c .before .before .before .search .ensures)
+    (c .before .in-table-order .ensures) (c .verdict-of .ensures)
 
 pub plan-tasks-spec : {M : Type 1} → statement M
 plan-tasks-spec =
     tie.close
     (tie.spec
     planning-order-requires
-    in-order-requires
+    in-planning-order-requires
     search-requires
-    in-table-requires
+    in-table-order-requires
     verdict-of-requires
     returns)

@@ -1,11 +1,11 @@
 -- Zeros beside the cause.
-use Rattle.planner.specs.Plan.{refusedFor}
+use Rattle.planner.specs.Plan.{refusedPlan}
 use borrow.Author.Needs.{needs}
 use Rattle.planner.proofs.refused.Statement.{statement}
 use Rattle.planner.proofs.refused.Tie as tie
 
 returns : tie.Need-returns
-unfolding refusedFor
+unfolding refusedPlan
 returns c = search needs
 
 pub refused-spec : {M : Type 1} → statement M

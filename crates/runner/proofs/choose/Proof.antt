@@ -1,4 +1,4 @@
--- The choice so far is that of the slots passed.
+-- The choice so far is that of the slots before i.
 use Prim.Native.Nat.{_-_}
 use Rattle.runner.proofs.SlotLoops.{Choosing, choose-start, choose-next, choose-done}
 use borrow.Author.Needs.{needs}
@@ -20,11 +20,11 @@ mul-s c = search needs
 array-copy-out-s : tie.Need-array-copy-out-s Inv-loop μ-loop
 array-copy-out-s c = search needs
 
-add-better : tie.Need-add-better Inv-loop μ-loop
-add-better c = search needs
+add-choice-so-far : tie.Need-add-choice-so-far Inv-loop μ-loop
+add-choice-so-far c = search needs
 
-better-requires : tie.Need-better-requires Inv-loop μ-loop
-better-requires c κs = search needs
+choice-so-far-requires : tie.Need-choice-so-far-requires Inv-loop μ-loop
+choice-so-far-requires c κs = search needs
 
 add-i : tie.Need-add-i Inv-loop μ-loop
 add-i c = search needs
@@ -47,8 +47,8 @@ choose-spec =
     loop-holds
     mul-s
     array-copy-out-s
-    add-better
-    better-requires
+    add-choice-so-far
+    choice-so-far-requires
     add-i
     loop-less
     loop-again

@@ -1,4 +1,4 @@
--- The late task so far is the lowest of the slots passed.
+-- The late task so far is the lowest of the slots before i.
 use Prim.Native.Nat.{_-_}
 use Rattle.edf.specs.Tick.{late as isLate}
 use Rattle.runner.proofs.SlotLoops.{Keeping, keep-start, keep-next, keep-done}
@@ -21,11 +21,11 @@ mul-s c = search needs
 array-copy-out-s : tie.Need-array-copy-out-s Inv-loop μ-loop
 array-copy-out-s c = search needs
 
-add-lower : tie.Need-add-lower Inv-loop μ-loop
-add-lower c = search needs
+add-late-so-far : tie.Need-add-late-so-far Inv-loop μ-loop
+add-late-so-far c = search needs
 
-lower-requires : tie.Need-lower-requires Inv-loop μ-loop
-lower-requires c κs = search needs
+late-so-far-requires : tie.Need-late-so-far-requires Inv-loop μ-loop
+late-so-far-requires c κs = search needs
 
 add-i : tie.Need-add-i Inv-loop μ-loop
 add-i c = search needs
@@ -48,8 +48,8 @@ first-late-spec =
     loop-holds
     mul-s
     array-copy-out-s
-    add-lower
-    lower-requires
+    add-late-so-far
+    late-so-far-requires
     add-i
     loop-less
     loop-again

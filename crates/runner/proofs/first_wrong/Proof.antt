@@ -1,4 +1,4 @@
--- The loop looks for the first slot that passes the test.
+-- The loop looks for the first slot of which the test holds.
 use Prim.Native.Nat.{_-_}
 use Rattle.edf.specs.Slots.{cannotBe}
 use Rattle.runner.proofs.SlotLoops.{Scanning, scan-start, scan-next, scan-found, scan-none}
@@ -7,7 +7,7 @@ use Rattle.runner.proofs.first_wrong.Statement.{statement}
 use Rattle.runner.proofs.first_wrong.Tie as tie
 
 abbrev Inv-loop : tie.InvT-loop
-Inv-loop slots i₀ i = Scanning cannotBe slots i
+Inv-loop slots i₀ i = Scanning (cannotBe 0) slots i
 
 abbrev μ-loop : tie.MeasureT-loop
 μ-loop slots i₀ i = 16 - i

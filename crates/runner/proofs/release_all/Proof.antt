@@ -1,4 +1,4 @@
--- The slots passed are released.
+-- The slots before i are released.
 use Prim.Native.Nat.{_-_}
 use Rattle.edf.specs.Tick.{release}
 use Rattle.runner.proofs.SlotLoops.{Sweeping, sweep-start, release-next, release-done}
@@ -7,7 +7,7 @@ use Rattle.runner.proofs.release_all.Statement.{statement}
 use Rattle.runner.proofs.release_all.Tie as tie
 
 abbrev Inv-loop : tie.InvT-loop
-Inv-loop requests next₀ i₀ next i = Sweeping (release requests) next₀ next i
+Inv-loop requests next₀ i₀ next i = Sweeping (release 0 requests) next₀ next i
 
 abbrev μ-loop : tie.MeasureT-loop
 μ-loop requests next₀ i₀ next i = 16 - i

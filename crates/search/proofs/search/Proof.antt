@@ -10,6 +10,12 @@ total-demand-requires c κs = (c .pre .few, λ k. le-trans (c .pre .each k) (c .
 excess-of-requires : tie.Need-excess-of-requires
 excess-of-requires c κs = search needs
 
+cast-walk : tie.Need-cast-walk
+cast-walk c = search needs
+
+cast-walk-2 : tie.Need-cast-walk-2
+cast-walk-2 c = search needs
+
 walk-requires : tie.Need-walk-requires
 walk-requires c κs = search needs
 
@@ -17,4 +23,4 @@ returns : tie.Need-returns
 returns c = search needs
 
 pub search-spec : {M : Type 1} → statement M
-search-spec = tie.close (tie.spec total-demand-requires excess-of-requires walk-requires returns)
+search-spec = tie.close (tie.spec total-demand-requires excess-of-requires cast-walk cast-walk-2 walk-requires returns)

@@ -2,10 +2,15 @@
 use Prim.Native.Nat.{_+_, _*_, _-_, _≤_}
 use mathlib.Core.Path.{_≡_, refl}
 use mathlib.Core.Bool.{false}
+use mathlib.Core.Logic.{⊎-elim}
 use native.Mathlib.Omega.{arith}
 use borrow.Author.Needs.{needs}
+use lib.Dec.{eqb}
+use lib.ListN.{getD}
+use Rattle.numbers.proofs.BoolLaws.{cond-le}
+use native.Mathlib.Nat.{le-refl}
 use Rattle.search.proofs.State.{locals, Walking, walk-start, walk-done, walk-back, depth-small, choice-small, load-small, last-small, last-enough}
-use Rattle.search.proofs.Entry.{job, total-small, Looked, skips, stops, stores, descends}
+use Rattle.search.proofs.Choices.{job, total-small, ranges-fixed, Entering, core-looked, none-looked, past, skips, enters, stops, stores, descends}
 use Rattle.search.proofs.walk.Statement.{statement}
 use Rattle.search.proofs.walk.Tie as tie
 
@@ -25,20 +30,33 @@ abbrev μ-tasks : tie.MeasureT-tasks
 μ-tasks n m h total excess limit demands path₀ loads₀ best₀ rejected₀ bound₀ steps₀ spent₀ depth₀ next₀ path loads best rejected bound steps spent depth next =
     2 * (limit - steps) + depth
 
--- the choice looked at, once it has been tested
-looked : (c : tie.After-enters Inv-choices μ-choices Inv-tasks μ-tasks)
-    → let a = c .before .before .before .before .before .before .args in
-    let l = c .before .before .before .before .choices in
-    Looked (a .t1) (a .n) (a .m) (a .h) (a .limit)
-    (locals (l .path) (l .loads) (l .best) (l .rejected) (l .bound) (l .steps) (l .depth) (l .next))
-    (c .before .before .choice-at .result) (c .before .pick .result) (c .enters .result)
-looked c = record {
-  state = c .before .before .before .before .choices .inv .0;
-  within = c .before .before .before .if1 .left;
-  choice-is = c .before .before .choice-at .ensures;
-  rejected-is = c .before .pick .ensures;
-  tested = rw (← c .before .before .before .before .before .before .pre .excess-is) (c .enters .ensures);
-}
+-- the choice that is entered, where the ways to it have met
+entering : (c : tie.Joined1 Inv-choices μ-choices Inv-tasks μ-tasks)
+    → let a = c .before .before .before .args in
+    let l = c .before .choices in
+    Entering (job (a .t1) (a .n) (a .m) (a .h) (a .limit))
+    (locals (l .path) (l .loads) (l .best) (l .rejected) (l .bound) (l .steps) (l .depth) (l .next)) (c .if1 .c)
+entering c =
+    let l = c .before .choices in
+    let e = c .before .before .before .pre .excess-is in
+    ⊎-elim
+    (λ w. rw (w .3) (enters (core-looked (l .inv .0) (w .0 .taken) e (w .1 .ensures)) (w .2 .left)))
+    (λ w. rw (w .4) (enters (none-looked (l .inv .0) (w .0 .left) (w .1 .left) e (w .2 .ensures)) (w .3 .left)))
+    (c .if1 .came)
+
+-- no choice is left, where the ways to that have met
+none-left : (c : tie.Joined3 Inv-choices μ-choices Inv-tasks μ-tasks)
+    → let a = c .before .before .before .before .args in
+    let l = c .before .before .choices in
+    Walking (job (a .t1) (a .n) (a .m) (a .h) (a .limit))
+    (locals (l .path) (l .loads) (l .best) (l .rejected) (l .bound) (l .steps) (l .depth) (a .m + 1))
+none-left c =
+    let l = c .before .before .choices in
+    let e = c .before .before .before .before .pre .excess-is in
+    ⊎-elim
+    (λ w. past (l .inv .0) (omega (arith, l .inv .0 .next-within, w .taken)))
+    (λ w. past (skips (none-looked (l .inv .0) (c .before .if1 .left) (w .0 .left) e (w .1 .ensures)) (w .2 .taken)) (omega (arith, c .before .if1 .left, w .0 .left)))
+    (c .if3 .came)
 
 add-bound : tie.Need-add-bound Inv-choices μ-choices Inv-tasks μ-tasks
 add-bound c = omega (arith, c .pre .total-is, total-small (c .pre .ranges))
@@ -47,57 +65,25 @@ tasks-holds : tie.Need-tasks-holds Inv-choices μ-choices Inv-tasks μ-tasks
 tasks-holds c =
     let a = c .args in
     let g = c .pre .ranges in
-    (walk-start (job (a .t1) (a .n) (a .m) (a .h) (a .limit)) (search needs) (g .some) (g .few) (g .few-cores) _ (c .pre .total-is) (total-small g), refl)
+    (walk-start (job (a .t1) (a .n) (a .m) (a .h) (a .limit)) (ranges-fixed g (search needs)) (g .some) _ (c .pre .total-is), refl)
 
 choices-holds : tie.Need-choices-holds Inv-choices μ-choices Inv-tasks μ-tasks
 choices-holds c = search needs
 
-sub-depth : tie.Need-sub-depth Inv-choices μ-choices Inv-tasks μ-tasks
-sub-depth c = search needs
+cast-load : tie.Need-cast-load Inv-choices μ-choices Inv-tasks μ-tasks
+cast-load c = search needs
 
-array-read-c : tie.Need-array-read-c Inv-choices μ-choices Inv-tasks μ-tasks
-array-read-c c = search needs
-
-cast-c : tie.Need-cast-c Inv-choices μ-choices Inv-tasks μ-tasks
-cast-c c = omega (arith, last-small (c .before .before .choices .inv .0) (c .if2 .left) refl)
-
-mul-with-load : tie.Need-mul-with-load Inv-choices μ-choices Inv-tasks μ-tasks
-mul-with-load c = omega (arith, last-small (c .before .before .choices .inv .0) (c .if2 .left) refl)
-
-array-read-with-load : tie.Need-array-read-with-load Inv-choices μ-choices Inv-tasks μ-tasks
-array-read-with-load c = last-small (c .before .before .choices .inv .0) (c .if2 .left) refl
-
-mul-with-load-2 : tie.Need-mul-with-load-2 Inv-choices μ-choices Inv-tasks μ-tasks
-mul-with-load-2 c = search needs
-
-array-read-with-load-2 : tie.Need-array-read-with-load-2 Inv-choices μ-choices Inv-tasks μ-tasks
-array-read-with-load-2 c = search needs
-
-sub-with-load : tie.Need-sub-with-load Inv-choices μ-choices Inv-tasks μ-tasks
-sub-with-load c = last-enough (c .before .before .choices .inv .0) (c .if2 .left) refl
-
-with-load-requires : tie.Need-with-load-requires Inv-choices μ-choices Inv-tasks μ-tasks
-with-load-requires c κs = last-small (c .before .before .choices .inv .0) (c .if2 .left) refl
-
-tried-by-requires : tie.Need-tried-by-requires Inv-choices μ-choices Inv-tasks μ-tasks
-tried-by-requires c κs = search needs
-
-tasks-less : tie.Need-tasks-less Inv-choices μ-choices Inv-tasks μ-tasks
-tasks-less c = search needs
-
-tasks-again : tie.Need-tasks-again Inv-choices μ-choices Inv-tasks μ-tasks
-tasks-again c =
-    let t = c .before .before .before .before .choices .inv in
-    (walk-back (t .0) (c .before .before .if2 .left) refl (c .before .before .before .if1 .taken) (c .before .with-load .ensures) (c .tried-by .ensures), t .3)
-
-choice-at-requires : tie.Need-choice-at-requires Inv-choices μ-choices Inv-tasks μ-tasks
-choice-at-requires c κs = search needs
+add-load : tie.Need-add-load Inv-choices μ-choices Inv-tasks μ-tasks
+add-load c = search needs
 
 mul-load : tie.Need-mul-load Inv-choices μ-choices Inv-tasks μ-tasks
-mul-load c = omega (arith, choice-small (c .before .before .choices .inv .0) (c .before .if1 .left) (c .choice-at .ensures))
+mul-load c = search needs
 
 array-read-load : tie.Need-array-read-load Inv-choices μ-choices Inv-tasks μ-tasks
-array-read-load c = choice-small (c .before .before .choices .inv .0) (c .before .if1 .left) (c .choice-at .ensures)
+array-read-load c = search needs
+
+cast-load-2 : tie.Need-cast-load-2 Inv-choices μ-choices Inv-tasks μ-tasks
+cast-load-2 c = search needs
 
 mul-load-2 : tie.Need-mul-load-2 Inv-choices μ-choices Inv-tasks μ-tasks
 mul-load-2 c = search needs
@@ -105,17 +91,14 @@ mul-load-2 c = search needs
 array-read-load-2 : tie.Need-array-read-load-2 Inv-choices μ-choices Inv-tasks μ-tasks
 array-read-load-2 c = search needs
 
-add-load : tie.Need-add-load Inv-choices μ-choices Inv-tasks μ-tasks
-add-load c = omega (arith, load-small (c .before .before .choices .inv .0) (c .before .if1 .left) (c .choice-at .ensures))
+add-load-2 : tie.Need-add-load-2 Inv-choices μ-choices Inv-tasks μ-tasks
+add-load-2 c = omega (arith, load-small (c .before .choices .inv .0) (c .before .choices .next + 1))
 
-array-read-pick : tie.Need-array-read-pick Inv-choices μ-choices Inv-tasks μ-tasks
-array-read-pick c = search needs
+array-read-enters-core : tie.Need-array-read-enters-core Inv-choices μ-choices Inv-tasks μ-tasks
+array-read-enters-core c = search needs
 
-pick-requires : tie.Need-pick-requires Inv-choices μ-choices Inv-tasks μ-tasks
-pick-requires c κs = search needs
-
-enters-requires : tie.Need-enters-requires Inv-choices μ-choices Inv-tasks μ-tasks
-enters-requires c κs = search needs
+enters-core-requires : tie.Need-enters-core-requires Inv-choices μ-choices Inv-tasks μ-tasks
+enters-core-requires c κs = search needs
 
 add-next : tie.Need-add-next Inv-choices μ-choices Inv-tasks μ-tasks
 add-next c = search needs
@@ -125,24 +108,95 @@ choices-less c = search needs
 
 choices-again : tie.Need-choices-again Inv-choices μ-choices Inv-tasks μ-tasks
 choices-again c =
-    let t = c .before .before .before .before .before .choices .inv in
-    (skips (looked (c .before)) (c .if3 .taken), t .1, t .2, t .3)
+    let l = c .before .before .before .choices in
+    let e = c .before .before .before .before .before .pre .excess-is in
+    (skips (core-looked (l .inv .0) (c .before .before .if1 .taken) e (c .before .enters-core .ensures)) (c .if2 .taken), l .inv .1, l .inv .2, l .inv .3)
+
+add-c : tie.Need-add-c Inv-choices μ-choices Inv-tasks μ-tasks
+add-c c = search needs
+
+array-read-improves : tie.Need-array-read-improves Inv-choices μ-choices Inv-tasks μ-tasks
+array-read-improves c = search needs
+
+cast-improves : tie.Need-cast-improves Inv-choices μ-choices Inv-tasks μ-tasks
+cast-improves c = search needs
+
+mul-improves : tie.Need-mul-improves Inv-choices μ-choices Inv-tasks μ-tasks
+mul-improves c = search needs
+
+array-read-improves-2 : tie.Need-array-read-improves-2 Inv-choices μ-choices Inv-tasks μ-tasks
+array-read-improves-2 c = search needs
+
+add-improves : tie.Need-add-improves Inv-choices μ-choices Inv-tasks μ-tasks
+add-improves c = omega (arith, load-small (c .before .before .choices .inv .0) 0)
+
+improves-requires : tie.Need-improves-requires Inv-choices μ-choices Inv-tasks μ-tasks
+improves-requires c κs = search needs
+
+sub-depth : tie.Need-sub-depth Inv-choices μ-choices Inv-tasks μ-tasks
+sub-depth c = search needs
+
+cast-last : tie.Need-cast-last Inv-choices μ-choices Inv-tasks μ-tasks
+cast-last c = search needs
+
+array-read-last : tie.Need-array-read-last Inv-choices μ-choices Inv-tasks μ-tasks
+array-read-last c = search needs
+
+cast-last-2 : tie.Need-cast-last-2 Inv-choices μ-choices Inv-tasks μ-tasks
+cast-last-2 c = omega (arith, last-small (c .before .before .before .choices .inv .0) (c .if5 .left) refl)
+
+cast-with-less : tie.Need-cast-with-less Inv-choices μ-choices Inv-tasks μ-tasks
+cast-with-less c = search needs
+
+mul-with-less : tie.Need-mul-with-less Inv-choices μ-choices Inv-tasks μ-tasks
+mul-with-less c = search needs
+
+array-read-with-less : tie.Need-array-read-with-less Inv-choices μ-choices Inv-tasks μ-tasks
+array-read-with-less c = search needs
+
+with-less-requires : tie.Need-with-less-requires Inv-choices μ-choices Inv-tasks μ-tasks
+with-less-requires c κs =
+    let s = c .before .before .before .choices .inv .0 in
+    (last-small s (c .if5 .left) refl, last-enough s (c .if5 .left) refl)
+
+tried-by-requires : tie.Need-tried-by-requires Inv-choices μ-choices Inv-tasks μ-tasks
+tried-by-requires c κs = search needs
+
+tasks-less : tie.Need-tasks-less Inv-choices μ-choices Inv-tasks μ-tasks
+tasks-less c = search needs
+
+tasks-again : tie.Need-tasks-again Inv-choices μ-choices Inv-tasks μ-tasks
+tasks-again c =
+    let g = c .before .before .before in
+    (walk-back (none-left g) (c .before .before .if5 .left) refl (omega arith) (c .before .with-less .ensures) (c .tried-by .ensures), g .before .before .choices .inv .3)
 
 add-steps : tie.Need-add-steps Inv-choices μ-choices Inv-tasks μ-tasks
 add-steps c = search needs
 
+cast-with-choice : tie.Need-cast-with-choice Inv-choices μ-choices Inv-tasks μ-tasks
+cast-with-choice c =
+    let v = entering (c .before .before) in
+    omega (arith, choice-small (v .state) (v .within) (v .choice-is))
+
 with-choice-requires : tie.Need-with-choice-requires Inv-choices μ-choices Inv-tasks μ-tasks
-with-choice-requires c κs =
-    let v = looked (c .before .before) in
-    (depth-small (v .state), choice-small (v .state) (v .within) (v .choice-is))
+with-choice-requires c κs = depth-small (entering (c .before .before) .state)
 
-add-if5 : tie.Need-add-if5 Inv-choices μ-choices Inv-tasks μ-tasks
-add-if5 c = search needs
+add-if7 : tie.Need-add-if7 Inv-choices μ-choices Inv-tasks μ-tasks
+add-if7 c = search needs
 
-with-load-requires-2 : tie.Need-with-load-requires-2 Inv-choices μ-choices Inv-tasks μ-tasks
-with-load-requires-2 c κs =
-    let v = looked (c .before .before .before .before) in
-    choice-small (v .state) (v .within) (v .choice-is)
+cast-with-more : tie.Need-cast-with-more Inv-choices μ-choices Inv-tasks μ-tasks
+cast-with-more c = search needs
+
+mul-with-more : tie.Need-mul-with-more Inv-choices μ-choices Inv-tasks μ-tasks
+mul-with-more c = search needs
+
+array-read-with-more : tie.Need-array-read-with-more Inv-choices μ-choices Inv-tasks μ-tasks
+array-read-with-more c = search needs
+
+with-more-requires : tie.Need-with-more-requires Inv-choices μ-choices Inv-tasks μ-tasks
+with-more-requires c κs =
+    let v = entering (c .before .before .before .before) in
+    (choice-small (v .state) (v .within) (v .choice-is), λ k. omega (arith, load-small (v .state) k))
 
 add-depth : tie.Need-add-depth Inv-choices μ-choices Inv-tasks μ-tasks
 add-depth c = search needs
@@ -151,10 +205,30 @@ tasks-less-2 : tie.Need-tasks-less-2 Inv-choices μ-choices Inv-tasks μ-tasks
 tasks-less-2 c = search needs
 
 tasks-again-2 : tie.Need-tasks-again-2 Inv-choices μ-choices Inv-tasks μ-tasks
-tasks-again-2 c = (
-  descends (looked (c .before .before .before .before .before)) (c .before .before .before .before .if3 .left) (c .before .before .before .if4 .left) (c .before .if5 .taken) (c .before .before .with-choice .ensures) (c .with-load2 .ensures),
-  c .before .before .before .before .before .before .before .before .before .choices .inv .3,
-)
+tasks-again-2 c =
+    let g = c .before .before .before .before .before in
+    (descends (entering g) (c .before .before .before .before .if6 .left) (c .before .if7 .taken) (c .before .before .with-choice .ensures) (c .with-more .ensures), g .before .choices .inv .3)
+
+array-read-rejected : tie.Need-array-read-rejected Inv-choices μ-choices Inv-tasks μ-tasks
+array-read-rejected c = search needs
+
+cast-pick : tie.Need-cast-pick Inv-choices μ-choices Inv-tasks μ-tasks
+cast-pick c = search needs
+
+mul-pick : tie.Need-mul-pick Inv-choices μ-choices Inv-tasks μ-tasks
+mul-pick c = search needs
+
+array-read-pick : tie.Need-array-read-pick Inv-choices μ-choices Inv-tasks μ-tasks
+array-read-pick c = search needs
+
+pick-requires : tie.Need-pick-requires Inv-choices μ-choices Inv-tasks μ-tasks
+pick-requires c κs = search needs
+
+add-rejected : tie.Need-add-rejected Inv-choices μ-choices Inv-tasks μ-tasks
+add-rejected c =
+    let g = c .before .before .before .before .before in
+    let l = g .before .choices in
+    omega (arith, load-small (l .inv .0) 0, c .pick .ensures, cond-le (eqb (g .if1 .c) 0) (getD (g .before .before .before .args .t1) (l .depth) 0) _ (le-refl _))
 
 add-next-2 : tie.Need-add-next-2 Inv-choices μ-choices Inv-tasks μ-tasks
 add-next-2 c = search needs
@@ -164,14 +238,15 @@ choices-less-2 c = search needs
 
 choices-again-2 : tie.Need-choices-again-2 Inv-choices μ-choices Inv-tasks μ-tasks
 choices-again-2 c =
-    let t = c .before .before .before .before .before .before .before .before .choices .inv in
-    (stores (looked (c .before .before .before .before)) (c .before .before .before .if3 .left) (c .before .before .if4 .left) (c .if5 .left) (c .before .with-choice .ensures), t .1, omega arith, t .3)
+    let g = c .before .before .before .before .before in
+    let t = g .before .choices .inv in
+    (stores (entering g) (c .before .before .before .before .if6 .left) (c .before .if7 .left) (c .before .before .with-choice .ensures) (c .pick .ensures), t .1, omega arith, t .3)
 
 returns : tie.Need-returns Inv-choices μ-choices Inv-tasks μ-tasks
-returns c = rw (c .before .before .choices .inv .3) (walk-done (c .before .before .choices .inv .0) (c .before .if1 .taken) (c .if2 .taken))
+returns c = rw (c .before .before .before .choices .inv .3) (walk-done (none-left (c .before)) (omega arith) (c .if5 .taken))
 
 returns-2 : tie.Need-returns-2 Inv-choices μ-choices Inv-tasks μ-tasks
-returns-2 c = stops (looked (c .before .before)) (c .before .if3 .left) (c .if4 .taken)
+returns-2 c = stops (entering (c .before)) (c .if6 .taken)
 
 pub walk-spec : {M : Type 1} → statement M
 walk-spec =
@@ -184,37 +259,54 @@ walk-spec =
     add-bound
     tasks-holds
     choices-holds
-    sub-depth
-    array-read-c
-    cast-c
-    mul-with-load
-    array-read-with-load
-    mul-with-load-2
-    array-read-with-load-2
-    sub-with-load
-    with-load-requires
-    tried-by-requires
-    tasks-less
-    tasks-again
-    choice-at-requires
+    cast-load
+    add-load
     mul-load
     array-read-load
+    cast-load-2
     mul-load-2
     array-read-load-2
-    add-load
-    array-read-pick
-    pick-requires
-    enters-requires
+    add-load-2
+    array-read-enters-core
+    enters-core-requires
     add-next
     choices-less
     choices-again
+    add-c
+    array-read-improves
+    cast-improves
+    mul-improves
+    array-read-improves-2
+    add-improves
+    improves-requires
+    sub-depth
+    cast-last
+    array-read-last
+    cast-last-2
+    cast-with-less
+    mul-with-less
+    array-read-with-less
+    with-less-requires
+    tried-by-requires
+    tasks-less
+    tasks-again
     add-steps
+    cast-with-choice
     with-choice-requires
-    add-if5
-    with-load-requires-2
+    add-if7
+    cast-with-more
+    mul-with-more
+    array-read-with-more
+    with-more-requires
     add-depth
     tasks-less-2
     tasks-again-2
+    array-read-rejected
+    cast-pick
+    mul-pick
+    array-read-pick
+    pick-requires
+    add-rejected
     add-next-2
     choices-less-2
     choices-again-2

@@ -1,5 +1,5 @@
 -- Within the limits the multiple is the hyperperiod.
-use Rattle.taskset.specs.Reading.{acceptedWith, taskSetOf}
+use Rattle.taskset.specs.Reading.{acceptedReading, taskSetOf}
 use Rattle.taskset.proofs.DemandLaws.{multiple-value}
 use borrow.Author.Needs.{needs}
 use Rattle.taskset.proofs.accepted.Statement.{statement}
@@ -12,7 +12,7 @@ demands-requires : tie.Need-demands-requires
 demands-requires c κs = (search needs, multiple-value (c .before .pre) _ (c .common-multiple .ensures))
 
 returns : tie.Need-returns
-unfolding acceptedWith taskSetOf
+unfolding acceptedReading taskSetOf
 returns c = cc (multiple-value (c .before .before .pre) _ (c .before .common-multiple .ensures))
 
 pub accepted-spec : {M : Type 1} → statement M

@@ -1,6 +1,6 @@
--- The running multiple, task by task, until it passes 1,000,000.
+-- The running multiple, task by task, until it exceeds 1,000,000.
 use Prim.Native.Nat.{_-_}
-use Rattle.taskset.proofs.DemandLaws.{Multiplying, multiply-start, multiply-next, multiply-passed, multiply-done}
+use Rattle.taskset.proofs.DemandLaws.{Multiplying, multiply-start, multiply-next, multiply-exceeded, multiply-done}
 use borrow.Author.Needs.{needs}
 use Rattle.taskset.proofs.common_multiple.Statement.{statement}
 use Rattle.taskset.proofs.common_multiple.Tie as tie
@@ -27,7 +27,7 @@ add-t11 : tie.Need-add-t11 Inv-loop μ-loop
 add-t11 c = search needs
 
 returns : tie.Need-returns Inv-loop μ-loop
-returns c = search (needs, multiply-passed)
+returns c = search (needs, multiply-exceeded)
 
 cast-h : tie.Need-cast-h Inv-loop μ-loop
 cast-h c = search needs

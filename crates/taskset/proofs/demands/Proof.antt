@@ -18,8 +18,8 @@ loop-holds c = search (needs, fill-start)
 demand-requires : tie.Need-demand-requires Inv-loop μ-loop
 demand-requires c κs = search needs
 
-with-entry-requires : tie.Need-with-entry-requires Inv-loop μ-loop
-with-entry-requires c κs = search needs
+with-number-requires : tie.Need-with-number-requires Inv-loop μ-loop
+with-number-requires c κs = search needs
 
 add-k : tie.Need-add-k Inv-loop μ-loop
 add-k c = search needs
@@ -41,7 +41,7 @@ demands-spec =
     μ-loop
     loop-holds
     demand-requires
-    with-entry-requires
+    with-number-requires
     add-k
     loop-less
     loop-again

@@ -1,7 +1,7 @@
 -- A search for the first task with a bad period.
 use Prim.Native.Nat.{_-_}
 use Rattle.numbers.proofs.FirstLaws.{Seeking, seek-start, seek-none, looked-on, looked-found}
-use Rattle.taskset.specs.Refusals.{badPeriod}
+use Rattle.taskset.specs.Tests.{badPeriod}
 use borrow.Author.Needs.{needs}
 use Rattle.taskset.proofs.first_bad_period.Statement.{statement}
 use Rattle.taskset.proofs.first_bad_period.Tie as tie

@@ -1,4 +1,4 @@
--- The task at which the multiple passes gives the place.
+-- The task at which the multiple exceeds gives the place.
 use mathlib.Core.Path.{ap}
 use Rattle.refusal.proofs.TestLaws.{refuse-at-by}
 use Rattle.refusal.specs.declared.Cause.the-variants.{Hyperperiod}
@@ -15,7 +15,7 @@ refuse-if-requires c κs = search needs
 
 returns : tie.Need-returns
 unfolding multipleOf
-returns c = refuse-at-by Hyperperiod (c .refuse-if .ensures) (ap (λ m. m .passed) (c .before .common-multiple .ensures))
+returns c = refuse-at-by Hyperperiod (c .refuse-if .ensures) (ap (λ m. m .exceeded) (c .before .common-multiple .ensures))
 
 pub hyperperiod-test-spec : {M : Type 1} → statement M
 hyperperiod-test-spec = tie.close (tie.spec common-multiple-requires refuse-if-requires returns)

@@ -1,20 +1,29 @@
 -- The test is the definition.
-use Rattle.taskset.specs.Refusals.{badBudget}
+use Rattle.taskset.specs.Tests.{badBudget}
 use borrow.Author.Needs.{needs}
 use Rattle.taskset.proofs.is_bad_budget.Statement.{statement}
 use Rattle.taskset.proofs.is_bad_budget.Tie as tie
 
-mul-period : tie.Need-mul-period
-mul-period c = search needs
+mul-outside : tie.Need-mul-outside
+mul-outside c = search needs
 
-element-copy-out-period : tie.Need-element-copy-out-period
-element-copy-out-period c = search needs
+element-copy-out-outside : tie.Need-element-copy-out-outside
+element-copy-out-outside c = search needs
 
-mul-budget : tie.Need-mul-budget
-mul-budget c = search needs
+cast-outside : tie.Need-cast-outside
+cast-outside c = search needs
 
-element-copy-out-budget : tie.Need-element-copy-out-budget
-element-copy-out-budget c = search needs
+mul-outside-2 : tie.Need-mul-outside-2
+mul-outside-2 c = search needs
+
+element-copy-out-outside-2 : tie.Need-element-copy-out-outside-2
+element-copy-out-outside-2 c = search needs
+
+cast-outside-2 : tie.Need-cast-outside-2
+cast-outside-2 c = search needs
+
+outside-requires : tie.Need-outside-requires
+outside-requires c κs = search needs
 
 returns : tie.Need-returns
 unfolding badBudget
@@ -23,4 +32,12 @@ returns c = search needs
 pub is-bad-budget-spec : {M : Type 1} → statement M
 is-bad-budget-spec =
     tie.close
-    (tie.spec mul-period element-copy-out-period mul-budget element-copy-out-budget returns)
+    (tie.spec
+    mul-outside
+    element-copy-out-outside
+    cast-outside
+    mul-outside-2
+    element-copy-out-outside-2
+    cast-outside-2
+    outside-requires
+    returns)

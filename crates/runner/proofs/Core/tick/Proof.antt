@@ -1,6 +1,8 @@
 -- The tick is its parts, one after the other; the first slot that cannot be refuses it.
+use lib.ListN.{length-map}
 use borrow.Author.Needs.{needs}
 use Rattle.runner.proofs.TickLaws.{tick-refused, tick-accepted}
+use Rattle.runner.proofs.PlainLaws.{plain-accepted, plain-not, refused-plain, refused-not}
 use Rattle.runner.proofs.RecordLaws.{record-refused, record-accepted}
 use Rattle.runner.proofs.Core.tick.Statement.{statement}
 use Rattle.runner.proofs.Core.tick.Tie as tie
@@ -9,7 +11,7 @@ first-wrong-requires : tie.Need-first-wrong-requires
 first-wrong-requires c κs = search needs
 
 returns : tie.Need-returns
-returns c = (search (needs, tick-refused), search (needs, record-refused))
+returns c = (search (needs, tick-refused), (search (needs, record-refused), (search (needs, plain-not), search (needs, refused-plain))))
 
 first-late-requires : tie.Need-first-late-requires
 first-late-requires c κs = search needs
@@ -20,11 +22,13 @@ release-all-requires c κs = search needs
 choose-requires : tie.Need-choose-requires
 choose-requires c κs = search needs
 
-pass-all-requires : tie.Need-pass-all-requires
-pass-all-requires c κs = search needs
+advance-all-requires : tie.Need-advance-all-requires
+advance-all-requires c κs = search needs
 
 returns-2 : tie.Need-returns-2
-returns-2 c = (search (needs, tick-accepted), search (needs, record-accepted))
+returns-2 c =
+    let size = simp length-map at (c .before .before .before .before .before .before .before .good .0) in
+    (search (needs, tick-accepted), (search (needs, record-accepted), (search (needs, plain-accepted, size), search (needs, refused-not))))
 
 pub tick-spec : {M : Type 1} → statement M
 tick-spec =
@@ -35,5 +39,5 @@ tick-spec =
     first-late-requires
     release-all-requires
     choose-requires
-    pass-all-requires
+    advance-all-requires
     returns-2)

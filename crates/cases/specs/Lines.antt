@@ -1,0 +1,67 @@
+-- The lines of the cases, byte for byte: number and place of the refusal (0 0 if none), then the values, single spaces, a line feed.
+use Prim.Native.Nat.{ℕ, _+_}
+use mathlib.Core.List.{List, _++_}
+use Rattle.numbers.specs.Rows.{row, entry}
+use Rattle.text.specs.Ascii.{ascii}
+use Rattle.text.specs.Decimal.{decimal, field}
+use Rattle.text.specs.Joined.{joined, fields}
+use Rattle.refusal.specs.Causes.{numberIn, placeIn}
+use Rattle.refusal.specs.declared.Outcome.{Outcome}
+use Rattle.taskset.specs.declared.TaskSet.{TaskSet}
+use Rattle.taskset.specs.declared.Reading.{Reading}
+use Rattle.planning.specs.Order.{planningOrder}
+use Rattle.planner.specs.Plan.{verdictOutcome}
+use Rattle.planner.specs.declared.Allocation.{Allocation}
+use Rattle.planner.specs.declared.Verdict.{Verdict}
+use Rattle.planner.specs.declared.Verdict.the-variants.{All, Short, Spent, Refused}
+use Rattle.edf.specs.declared.Slot.{Slot}
+use Rattle.start.specs.declared.Started.{Started}
+use Rattle.runner.specs.declared.Ticked.{Ticked}
+
+-- number and place
+unfoldable pub outcomeFields : Outcome → List ℕ
+outcomeFields o = decimal (numberIn o) ++ field (placeIn o)
+
+-- a slot: period, budget, ticks until release, ticks owed
+unfoldable pub slotFields : Slot → List ℕ
+slotFields s = field (s .period) ++ field (s .budget) ++ field (s .until) ++ field (s .remaining)
+
+-- n, m and the hyperperiod
+unfoldable pub sizeFields : TaskSet → List ℕ
+sizeFields t = field (t .fields .n) ++ field (t .fields .m) ++ field (t .hyperperiod)
+
+-- the first n tasks of an order by their numbers, from 1; zeros beyond n
+unfoldable pub taskNumbers : List ℕ → ℕ → List ℕ
+taskNumbers order n = row 0 n (λ k. entry order k + 1)
+
+-- periods, budgets, demands and planning order
+unfoldable pub taskFields : TaskSet → List ℕ
+taskFields t = fields (t .fields .periods) ++ fields (t .fields .budgets) ++ fields (t .demands) ++ fields (taskNumbers (planningOrder t) (t .fields .n))
+
+-- code 1: a reading
+unfoldable pub tableLine : Reading → List ℕ
+tableLine r = outcomeFields (r .outcome) ++ sizeFields (r .tasks) ++ taskFields (r .tasks) ++ ascii "\n"
+
+-- the number of a verdict
+abbrev pub verdictNumber : Verdict → ℕ
+verdictNumber All = 0
+verdictNumber Short = 1
+verdictNumber Spent = 2
+verdictNumber (Refused cause) = 0
+
+-- code 2: a plan
+unfoldable pub planLine : Allocation → List ℕ
+planLine a =
+    outcomeFields (verdictOutcome (a .verdict)) ++ field (verdictNumber (a .verdict)) ++ field (a .rejected) ++ field (a .steps)
+    ++ fields (a .placement) ++ ascii "\n"
+
+-- code 3: a fresh core, and each of its ticks
+unfoldable pub coreLine : Started → List ℕ
+coreLine s = outcomeFields (s .outcome) ++ joined slotFields (s .core .slots) ++ ascii "\n"
+
+unfoldable pub tickLine : Ticked → List ℕ
+tickLine t = outcomeFields (t .outcome) ++ field (t .run) ++ field (t .late) ++ ascii "\n"
+
+-- code 4: one tick, with the record handed back
+unfoldable pub recordLine : Ticked → List ℕ
+recordLine t = outcomeFields (t .outcome) ++ field (t .run) ++ field (t .late) ++ joined slotFields (t .core .slots) ++ ascii "\n"

@@ -1,0 +1,157 @@
+// One program over the library for tests from outside: it runs the cases on standard input and prints their lines.
+// A case is its code in one byte, then its blocks. Each code has a file, which names its blocks.
+mod blocks;
+mod cores;
+mod lines;
+mod plans;
+mod records;
+mod tables;
+
+use refusal::Outcome;
+use runner::Core;
+
+// Reads a block of exactly the buffer's length; false where there is none.
+fn read_exact(buffer: &mut [u8]) -> bool {
+    let length = buffer.len();
+    let block = blocks::read_block(buffer);
+    block.whole & (block.length == length)
+}
+
+// Reads a table and prints its line; false where the case is not whole or the output fails.
+fn run_table() -> bool {
+    let mut table = [0u8; 1024];
+    let block = blocks::read_block(&mut table);
+    if !block.whole {
+        return false;
+    }
+    let n = block.length;
+    let reading = stored::read_table(&table[..n]);
+    console::show(tables::table_line(reading))
+}
+
+// Reads a table and a limit and prints the plan's line; false where the case is not whole or the output fails.
+fn run_plan() -> bool {
+    let mut table = [0u8; 1024];
+    let block = blocks::read_block(&mut table);
+    if !block.whole {
+        return false;
+    }
+    let n = block.length;
+    let mut limit = [0u8; 4];
+    if !read_exact(&mut limit) {
+        return false;
+    }
+    let plan = planner::plan(&table[..n], wire::word(&limit, 0));
+    console::show(plans::plan_line(plan))
+}
+
+// Reads the requests of each tick, and if the core was accepted makes the tick and prints its line; false where the case is not whole
+// or the output fails.
+fn run_ticks(core: Core, accepted: bool, count: u32) -> bool {
+    let mut present = core;
+    let mut left = count;
+    while 0 < left {
+        let mut bytes = [0u8; 64];
+        if !read_exact(&mut bytes) {
+            return false;
+        }
+        if accepted {
+            let ticked = present.tick(blocks::numbers_of(&bytes));
+            if !console::show(cores::tick_line(ticked)) {
+                return false;
+            }
+            let next = ticked.core;
+            present = next;
+        }
+        left -= 1;
+    }
+    true
+}
+
+fn is_accepted(outcome: Outcome) -> bool {
+    match outcome {
+        Outcome::Accepted => true,
+        Outcome::Refused(_) => false,
+    }
+}
+
+// Reads core number and tick count, prints the core's line and runs its ticks; false where the case is not whole or the output fails.
+fn run_started(table: &[u8], placement: &[u8]) -> bool {
+    let mut number = [0u8; 1];
+    if !read_exact(&mut number) {
+        return false;
+    }
+    let mut count = [0u8; 4];
+    if !read_exact(&mut count) {
+        return false;
+    }
+    let started = start::fresh(table, placement, number[0]);
+    if !console::show(cores::core_line(started)) {
+        return false;
+    }
+    let outcome = started.outcome;
+    run_ticks(started.core, is_accepted(outcome), wire::word(&count, 0))
+}
+
+// Reads a table and a placement and runs the core; false where the case is not whole or the output fails.
+fn run_core() -> bool {
+    let mut table = [0u8; 1024];
+    let first = blocks::read_block(&mut table);
+    if !first.whole {
+        return false;
+    }
+    let mut placement = [0u8; 1024];
+    let second = blocks::read_block(&mut placement);
+    if !second.whole {
+        return false;
+    }
+    let n = first.length;
+    let p = second.length;
+    run_started(&table[..n], &placement[..p])
+}
+
+// Reads a record and sixteen requests and prints the tick's line; false where the case is not whole or the output fails.
+fn run_record() -> bool {
+    let mut record = [0u8; 256];
+    if !read_exact(&mut record) {
+        return false;
+    }
+    let mut requests = [0u8; 64];
+    if !read_exact(&mut requests) {
+        return false;
+    }
+    let slots = records::slots_in(&record);
+    let core = Core { slots: slots };
+    console::show(records::record_line(core.tick(blocks::numbers_of(&requests))))
+}
+
+// Runs a case by its code; false where there is no such code, the case is not whole, or the output fails.
+fn run_case(code: u8) -> bool {
+    match code {
+        1 => run_table(),
+        2 => run_plan(),
+        3 => run_core(),
+        4 => run_record(),
+        _ => false,
+    }
+}
+
+// Reads a code and runs its case; false where the input ends or the case fails.
+fn run_next() -> bool {
+    let mut code = [0u8; 1];
+    if console::read_next(&mut code, 1) < 1 {
+        return false;
+    }
+    run_case(code[0])
+}
+
+// One case after another, until the input ends or one fails. A loop has to end: the count bounds this one, and no input reaches it.
+fn main() {
+    let mut left: u64 = 18446744073709551615;
+    while 0 < left {
+        if !run_next() {
+            return;
+        }
+        left -= 1;
+    }
+}

@@ -1,0 +1,114 @@
+// What one move of the walk does: an array by value with one entry changed, the entry rule, and what the walk starts from.
+ghost use mathlib.Core.Path.{_≡_};
+ghost use mathlib.Core.Bool.{cond, _&&_};
+ghost use Prim.Native.Nat.{ℕ, _+_, _*_, _-_, _<_, _≤_};
+ghost use lib.Dec.{eqb, ltb};
+ghost use lib.ListN.{getD, set, take};
+ghost use Rattle.numbers.specs.Loads.{sum};
+ghost use Rattle.allocation.specs.Walk.{triedBy};
+ghost use Rattle.moves.specs.Entry.{mayEnter};
+
+// x where c is i, and y otherwise.
+pub fn pick(c: u32, i: u32, x: u32, y: u32) -> u32
+    ensures { λ r. ⌜ r ≡ cond (eqb c i) x y ⌝ }
+{
+    if c == i { x } else { y }
+}
+
+// The same for bytes.
+pub fn pick_byte(c: u8, i: u8, x: u8, y: u8) -> u8
+    ensures { λ r. ⌜ r ≡ cond (eqb c i) x y ⌝ }
+{
+    if c == i { x } else { y }
+}
+
+// The placement with the choice of the task at `at` changed. Here and for the loads each entry is written, by its own
+// test: the compiler makes that a few operations on all entries at once.
+pub fn with_choice(mut path: [u8; 16], at: u8, c: u8) -> [u8; 16]
+    requires { ⌜ at < 16 ⌝ }
+    ensures { λ r. ⌜ r ≡ set path at c ⌝ }
+{
+    let mut k: u8 = 0;
+    while k < 16 {
+        let entry = pick_byte(at, k, c, path[k as usize]);
+        path[k as usize] = entry;
+        k += 1;
+    }
+    path
+}
+
+// The loads with demand d more on choice c.
+pub fn with_more(mut loads: [u32; 5], c: u32, d: u32) -> [u32; 5]
+    requires { ⌜ (c < 5) × ((k : ℕ) → getD loads k 0 + d < 4294967296) ⌝ }
+    ensures { λ r. ⌜ r ≡ set loads c (getD loads c 0 + d) ⌝ }
+{
+    let mut k: u32 = 0;
+    while k < 5 {
+        let entry = loads[k as usize] + pick(c, k, d, 0);
+        loads[k as usize] = entry;
+        k += 1;
+    }
+    loads
+}
+
+// The loads with demand d less on choice c.
+pub fn with_less(mut loads: [u32; 5], c: u32, d: u32) -> [u32; 5]
+    requires { ⌜ (c < 5) × (d ≤ getD loads c 0) ⌝ }
+    ensures { λ r. ⌜ r ≡ set loads c (getD loads c 0 - d) ⌝ }
+{
+    let mut k: u32 = 0;
+    while k < 5 {
+        let entry = loads[k as usize] - pick(c, k, d, 0);
+        loads[k as usize] = entry;
+        k += 1;
+    }
+    loads
+}
+
+// How many choices have been tried once c has been.
+pub fn tried_by(m: u32, c: u32) -> u32
+    requires { ⌜ m ≤ 4 ⌝ }
+    ensures { λ r. ⌜ r ≡ triedBy m c ⌝ }
+{
+    if c == 0 { m + 1 } else { c }
+}
+
+// Whether a choice that makes the rejected demand `out` may still improve on the stored placement.
+pub fn improves(out: u32, excess: u32, bound: u32) -> bool
+    ensures { λ r. ⌜ r ≡ (ltb out bound && ltb excess bound) ⌝ }
+{
+    (out < bound) & (excess < bound)
+}
+
+// Whether a core is entered that gets the load `load`, where `out` is rejected.
+pub fn enters_core(load: u32, h: u32, out: u32, excess: u32, bound: u32) -> bool
+    ensures { λ r. ⌜ r ≡ mayEnter 1 load h out excess bound ⌝ }
+{
+    (load <= h) & improves(out, excess, bound)
+}
+
+// The sum of the first n demands.
+pub fn total_demand(demands: [u32; 16], n: usize) -> u32
+    requires { ⌜ (n ≤ 16) × ((k : ℕ) → getD demands k 0 ≤ 1000000) ⌝ }
+    ensures { λ r. ⌜ r ≡ sum (take n demands) ⌝ }
+{
+    let mut total: u32 = 0;
+    let mut i: usize = 0;
+    while i < n {
+        total += demands[i];
+        i += 1;
+    }
+    total
+}
+
+// What m cores cannot hold of a total demand.
+pub fn excess_of(total: u32, m: usize, h: u32) -> u32
+    requires { ⌜ (m ≤ 4) × (h ≤ 1000000) ⌝ }
+    ensures { λ r. ⌜ r ≡ total - m * h ⌝ }
+{
+    let room = (m as u32) * h;
+    if total < room {
+        return 0;
+    }
+    total - room
+}

@@ -1,0 +1,32 @@
+-- Rows of zeros, and rows that zeros complete.
+use Prim.Native.Nat.{ℕ, zero, suc, _-_, _≤_}
+use native.Mathlib.Nat.{sub-zero, zero-sub, suc-sub-suc}
+use native.Mathlib.Omega.{arith}
+use mathlib.Core.Path.{_≡_, refl, sym, ap, _∙_}
+use mathlib.Core.List.{List, [], _∷_, _++_}
+use lib.ListN.{length, getD, take, drop, replicate}
+use Rattle.numbers.specs.Rows.{padded}
+
+pub take-zeros : (n k : ℕ) → n ≤ k → take n (replicate {A = ℕ} k 0) ≡ replicate n 0
+take-zeros zero k l = refl
+take-zeros (suc n) zero l = absurd (omega arith)
+take-zeros (suc n) (suc k) l = ap (λ (x : List ℕ). 0 ∷ x) (take-zeros n k (omega arith))
+
+pub drop-zeros : (n k : ℕ) → drop n (replicate {A = ℕ} k 0) ≡ replicate (k - n) 0
+drop-zeros zero k = ap (λ (x : ℕ). replicate x 0) (sym (sub-zero k))
+drop-zeros (suc n) zero = ap (λ (x : ℕ). replicate x 0) (sym (zero-sub (suc n)))
+drop-zeros (suc n) (suc k) = drop-zeros n k ∙ ap (λ (x : ℕ). replicate x 0) (sym (suc-sub-suc k n))
+
+pub zero-at : (k x : ℕ) → getD (replicate {A = ℕ} k 0) x 0 ≡ 0
+zero-at zero x = refl
+zero-at (suc k) zero = refl
+zero-at (suc k) (suc x) = zero-at k x
+
+getD-append-zeros : (p : List ℕ) (k x : ℕ) → getD (p ++ replicate k 0) x 0 ≡ getD p x 0
+getD-append-zeros [] k x = zero-at k x
+getD-append-zeros (c ∷ p) k zero = refl
+getD-append-zeros (c ∷ p) k (suc x) = getD-append-zeros p k x
+
+-- a padded list has the same entries
+pub getD-padded : (p : List ℕ) (x : ℕ) → getD (padded p) x 0 ≡ getD p x 0
+getD-padded p x = getD-append-zeros p (16 - length p) x

@@ -1,0 +1,182 @@
+-- Tests made in order decide a list of conditions, where each test reports its own.
+use Prim.Native.Nat.{ℕ, suc, _≤_}
+use mathlib.Core.Path.{_≡_, refl, sym, _∙_, ap}
+use mathlib.Core.List.{List, [], _∷_, _++_}
+use mathlib.Core.Bool.{Bool, true, true≢false}
+use mathlib.Core.Logic.{_⊎_, inl, inr, _↔_}
+use native.Mathlib.Omega.{arith}
+use Rattle.numbers.specs.First.{first}
+use Rattle.numbers.proofs.FirstLaws.{first-is, first-zero, isFirst-unique, isFirst-map}
+use Rattle.refusal.specs.Causes.{numberOf, placeOf, numberIn, placeIn}
+use Rattle.refusal.specs.Tests.{_then_, refuseIf, refuseAt}
+use Rattle.refusal.specs.Conditions.{Condition, only, at, HoldsAt, Fails, None, First, Gives, Decides}
+use Rattle.refusal.specs.declared.Cause.{Cause}
+use Rattle.refusal.specs.declared.Outcome.{Outcome}
+use Rattle.refusal.specs.declared.Outcome.the-variants.{Accepted, Refused}
+use Rattle.refusal.proofs.CauseLaws.{number-range}
+use Rattle.refusal.proofs.TestLaws.{accepted≢refused, outcome-cases, then-accepted, then-cases, refuseIf-accepted, refuseIf-refused, refuseAt-accepted, refuseAt-refused}
+
+-- ---- the first condition that holds
+
+place-unique : (c : Condition) {p q : ℕ} → HoldsAt c p → HoldsAt c q → p ≡ q
+place-unique (only number P) a b = a .1 ∙ sym (b .1)
+place-unique (at number P n) a b = a .1 ∙ ap suc (isFirst-unique (a .2) (b .2)) ∙ sym (b .1)
+
+fails-nowhere : (c : Condition) (p : ℕ) → Fails c → HoldsAt c p → ⊥
+fails-nowhere (only number P) p f h = f (h .0)
+fails-nowhere (at number P n) p f h = f (h .0) (h .2 .below) (h .2 .here)
+
+first-unique : (cs : List Condition) {k l p q : ℕ} → First cs k p → First cs l q → (k ≡ l) × (p ≡ q)
+first-unique (c ∷ cs) (inl a) (inl b) = (a .0 ∙ sym (b .0), place-unique c (a .1) (b .1))
+first-unique (c ∷ cs) {p = p} (inl a) (inr b) = absurd (fails-nowhere c p (b .0) (a .1))
+first-unique (c ∷ cs) {q = q} (inr a) (inl b) = absurd (fails-nowhere c q (a .0) (b .1))
+first-unique (c ∷ cs) (inr a) (inr b) = first-unique cs (a .1) (b .1)
+
+pub none-first : (cs : List Condition) (k p : ℕ) → None cs → First cs k p → ⊥
+none-first (c ∷ cs) k p n (inl a) = fails-nowhere c p (n .0) (a .1)
+none-first (c ∷ cs) k p n (inr a) = none-first cs k p (n .1) (a .1)
+
+-- a list after another
+pub none-append : (cs ds : List Condition) → None (cs ++ ds) ↔ (None cs × None ds)
+none-append [] ds = (λ n. (tt, n), λ n. n .1)
+none-append (c ∷ cs) ds = (
+  λ n. let r = none-append cs ds .0 (n .1) in ((n .0, r .0), r .1),
+  λ n. (n .0 .0, none-append cs ds .1 (n .0 .1, n .1)),
+)
+
+-- rows given one by one: `a also b also tt`
+infixr 30 _also_
+pub _also_ : {A B : Type 0} → A → B → A × B
+a also b = (a, b)
+
+first-front : (cs ds : List Condition) (k p : ℕ) → First cs k p → First (cs ++ ds) k p
+first-front (c ∷ cs) ds k p (inl a) = inl a
+first-front (c ∷ cs) ds k p (inr a) = inr (a .0, first-front cs ds k p (a .1))
+
+first-behind : (cs ds : List Condition) (k p : ℕ) → None cs → First ds k p → First (cs ++ ds) k p
+first-behind [] ds k p n f = f
+first-behind (c ∷ cs) ds k p n f = inr (n .0, first-behind cs ds k p (n .1) f)
+
+-- ---- what an outcome reports of a list of conditions
+
+pub record Reports (cs : List Condition) (o : Outcome) : Type 0 where
+  pub accepted : o ≡ Accepted → None cs
+  pub refused : (c : Cause) → o ≡ Refused c → First cs (numberOf c) (placeOf c)
+
+-- one call's tests after another's; the second may take for granted that no condition of the first holds
+pub then-reports : (cs ds : List Condition) {o p : Outcome} → Reports cs o → (None cs → Reports ds p) → Reports (cs ++ ds) (o then p)
+then-reports cs ds {o} {p} a b = record {
+  accepted = λ e. let r = then-accepted o p e in let n = a .accepted (r .0) in none-append cs ds .1 (n, b n .accepted (r .1));
+  refused = λ c e. go c (then-cases o p c e);
+}
+  where
+    go : (c : Cause) → (o ≡ Refused c) ⊎ ((o ≡ Accepted) × (p ≡ Refused c)) → First (cs ++ ds) (numberOf c) (placeOf c)
+    go c (inl e) = first-front cs ds _ _ (a .refused c e)
+    go c (inr e) = let n = a .accepted (e .0) in first-behind cs ds _ _ n (b n .refused c (e .1))
+
+-- a test that computes its condition
+pub test-only : {P : Type 0} {t : Bool} (c : Cause) → placeOf c ≡ 0 → (t ≡ true) ↔ P → Reports (only (numberOf c) P ∷ []) (refuseIf t c)
+test-only {P} {t} c z h = record {
+  accepted = λ e. (λ x. true≢false (sym (h .1 x) ∙ refuseIf-accepted t c e), tt);
+  refused = λ d e. let r = refuseIf-refused t c d e in inl (ap numberOf (sym (r .1)), (h .0 (r .0), ap placeOf (sym (r .1)) ∙ z));
+}
+
+-- a test that looks for the first index
+pub test-at : {P : ℕ → Type 0} {p : ℕ → Bool} {n number : ℕ} (cause : ℕ → Cause)
+    → ((k : ℕ) → (numberOf (cause k) ≡ number) × (placeOf (cause k) ≡ k))
+    → ((k : ℕ) → (p k ≡ true) ↔ P k) → Reports (at number P n ∷ []) (refuseAt (first p n) cause)
+test-at {P} {p} {n} {number} cause is h = record {
+  accepted = λ e. (λ k b x. true≢false (sym (h k .1 x) ∙ first-zero p n (refuseAt-accepted _ cause e) k b), tt);
+  refused = λ d e.
+      let r = refuseAt-refused (first p n) cause d e in
+      inl (
+        ap numberOf (sym (r .2)) ∙ is (suc (r .0)) .0,
+        (r .0, ap placeOf (sym (r .2)) ∙ is (suc (r .0)) .1, isFirst-map (λ k. h k .0) (λ k. h k .1) (first-is p n (r .0) (r .1))),
+      );
+}
+
+-- one test after another, each for the next condition of the list: `a and b and c and no-more`
+pub no-more : Reports [] Accepted
+no-more = record { accepted = λ e. tt; refused = λ c e. absurd (accepted≢refused refl e) }
+
+infixr 30 _and_
+pub _and_ : {c : Condition} {t o : Outcome} {cs : List Condition} → Reports (c ∷ []) t → Reports cs o → Reports (c ∷ cs) (t then o)
+_and_ {c} {cs = cs} a b = then-reports (c ∷ []) cs a (λ _. b)
+
+-- ---- what reports its conditions decides, where none holds exactly if the call is valid
+
+pub gives-accepted : (o : Outcome) → Gives o 0 0 → o ≡ Accepted
+gives-accepted Accepted g = refl
+gives-accepted (Refused c) g = absurd (omega (arith, number-range c .0, g .0))
+
+accepted-gives : {o : Outcome} → o ≡ Accepted → Gives o 0 0
+accepted-gives e = (ap numberIn e, ap placeIn e)
+
+module _ {cs : List Condition} {o : Outcome} (r : Reports cs o) where
+  none-accepted : None cs → o ≡ Accepted
+  none-accepted n = go (outcome-cases o)
+    where
+      go : (o ≡ Accepted) ⊎ ((c : Cause) × (o ≡ Refused c)) → o ≡ Accepted
+      go (inl e) = e
+      go (inr e) = absurd (none-first cs _ _ n (r .refused (e .0) (e .1)))
+
+  pub first-given : {k p : ℕ} → First cs k p → Gives o k p
+  first-given {k} {p} f = go (outcome-cases o)
+    where
+      go : (o ≡ Accepted) ⊎ ((c : Cause) × (o ≡ Refused c)) → Gives o k p
+      go (inl e) = absurd (none-first cs k p (r .accepted e) f)
+      go (inr e) =
+          let u = first-unique cs (r .refused (e .0) (e .1)) f in
+          (ap numberIn (e .1) ∙ u .0, ap placeIn (e .1) ∙ u .1)
+
+  given-first : {k p : ℕ} → 1 ≤ k → Gives o k p → First cs k p
+  given-first {k} {p} h g = go (outcome-cases o)
+    where
+      go : (o ≡ Accepted) ⊎ ((c : Cause) × (o ≡ Refused c)) → First cs k p
+      go (inl e) = absurd (let z : 0 ≡ k = sym (ap numberIn e) ∙ g .0 in omega arith)
+      go (inr e) =
+          let a : numberOf (e .0) ≡ k = sym (ap numberIn (e .1)) ∙ g .0 in
+          let b : placeOf (e .0) ≡ p = sym (ap placeIn (e .1)) ∙ g .1 in
+          rw (← a, ← b) (r .refused (e .0) (e .1))
+
+-- The tests of a call report its conditions, and none of these holds exactly if the call is valid.
+pub record Tested (Valid : Type 0) (cs : List Condition) (o : Outcome) : Type 0 where
+  pub reports : Reports cs o
+  pub valid : None cs ↔ Valid
+
+-- They decide,
+pub decides : {Valid : Type 0} {cs : List Condition} {o : Outcome} → Tested Valid cs o → Decides Valid cs o
+decides {o = o} t = record {
+  accepted = (
+    λ g. t .valid .0 (t .reports .accepted (gives-accepted o g)),
+    λ v. accepted-gives (none-accepted (t .reports) (t .valid .1 v)),
+  );
+  refused = λ k p h. (given-first (t .reports) h, first-given (t .reports));
+}
+
+-- and those of two calls, one after the other, decide both.
+pub join : {A B : Type 0} {cs ds : List Condition} {o p : Outcome} → Tested A cs o → Tested B ds p → Tested (A × B) (cs ++ ds) (o then p)
+join {cs = cs} {ds} a b = record {
+  reports = then-reports cs ds (a .reports) (λ _. b .reports);
+  valid = (
+    λ n. let r = none-append cs ds .0 n in (a .valid .0 (r .0), b .valid .0 (r .1)),
+    λ v. none-append cs ds .1 (a .valid .1 (v .0), b .valid .1 (v .1)),
+  );
+}
+
+-- what a decision says of an acceptance
+pub accepts : {Valid : Type 0} {cs : List Condition} {o : Outcome} → Decides Valid cs o → (o ≡ Accepted) ↔ Valid
+accepts {o = o} d = (λ e. d .accepted .0 (accepted-gives e), λ v. gives-accepted o (d .accepted .1 v))
+
+-- outcomes of the same number and place decide the same
+pub decides-same : {Valid : Type 0} {cs : List Condition} (o p : Outcome) → numberIn o ≡ numberIn p → placeIn o ≡ placeIn p → Decides Valid cs p → Decides Valid cs o
+decides-same o p a b d = record {
+  accepted = (
+    λ g. d .accepted .0 (sym a ∙ g .0, sym b ∙ g .1),
+    λ v. let g = d .accepted .1 v in (a ∙ g .0, b ∙ g .1),
+  );
+  refused = λ k q h. (
+    λ g. d .refused k q h .0 (sym a ∙ g .0, sym b ∙ g .1),
+    λ f. let g = d .refused k q h .1 f in (a ∙ g .0, b ∙ g .1),
+  );
+}

@@ -1,0 +1,33 @@
+-- The paper's table of causes as data, which `numberOf` and `placeOf` have to be.
+use Prim.Native.Nat.{ℕ}
+use mathlib.Core.Path.{_≡_}
+use mathlib.Core.List.{List, [], _∷_}
+use Rattle.refusal.specs.Causes.{numberOf, placeOf}
+use Rattle.refusal.specs.declared.Cause.{Cause}
+use Rattle.refusal.specs.declared.Cause.the-variants.{TooShort, TaskCount, CoreCount, Length, Period, Budget, Hyperperiod, Buffer, Placement, CoreNumber, Overload, Slot}
+
+-- A row of the table: a cause, its number, its place.
+pub data CauseRow : Type 0 where
+  cause : Cause → ℕ → ℕ → CauseRow
+
+-- the table, where p is the first such task or slot; 0 where the paper names no place
+abbrev pub causeTable : ℕ → List CauseRow
+causeTable p =
+    cause TooShort 1 0
+    ∷ cause TaskCount 2 0
+    ∷ cause CoreCount 3 0
+    ∷ cause Length 4 0
+    ∷ cause (Period p) 5 p
+    ∷ cause (Budget p) 6 p
+    ∷ cause (Hyperperiod p) 7 p
+    ∷ cause Buffer 8 0
+    ∷ cause (Placement p) 9 p
+    ∷ cause CoreNumber 10 0
+    ∷ cause Overload 11 0
+    ∷ cause (Slot p) 12 p
+    ∷ []
+
+-- Number and place of each row are those that the definitions give its cause.
+abbrev pub Agrees : List CauseRow → Type 0
+Agrees [] = Unit {0}
+Agrees (cause c number place ∷ rows) = (numberOf c ≡ number) × (placeOf c ≡ place) × Agrees rows

@@ -1,0 +1,107 @@
+-- The whole output is the one that the definition gives.
+use Prim.Native.Nat.{ℕ, zero, suc, _≤_}
+use mathlib.Core.Path.{_≡_, refl, sym, _∙_, ap}
+use mathlib.Core.Bool.{Bool, true, false}
+use mathlib.Core.List.{List, []}
+use native.Mathlib.Omega.{arith}
+use Rattle.refusal.specs.Causes.{numberOf, placeOf}
+use Rattle.refusal.specs.Conditions.{Gives}
+use Rattle.refusal.specs.declared.Cause.{Cause}
+use Rattle.refusal.specs.declared.Outcome.{Outcome}
+use Rattle.refusal.specs.declared.Outcome.the-variants as outcome
+use Rattle.refusal.proofs.ConditionLaws.{decides, accepts}
+use Rattle.taskset.specs.Limits.{Checked, Reads}
+use Rattle.taskset.specs.Reading.{taskSetOf, acceptedReading, readingBy}
+use Rattle.taskset.proofs.ReadingLaws.{reading-outcome, reading-accepted}
+use Rattle.taskset.specs.declared.Fields.{Fields}
+use Rattle.taskset.specs.declared.Reading.{Reading}
+use Rattle.taskset.specs.declared.TaskSet.{TaskSet}
+use Rattle.stored.specs.Form.{fieldsOf}
+use Rattle.stored.specs.Tests.{tableOutcome, readingOf}
+use Rattle.stored.proofs.TableLaws.{table-tested}
+use Rattle.planner.specs.Plan.{verdictOf, allocationOf, planFor, refusedPlan, planBy, planOf, verdictOutcome}
+use Rattle.planner.specs.declared.Allocation.{Allocation}
+use Rattle.planner.specs.declared.Verdict.{Verdict}
+use Rattle.planner.specs.declared.Verdict.the-variants as verdict
+use Rattle.text.specs.Shown.{shown, Appended}
+use Rattle.text.specs.declared.Text.{Text}
+use Rattle.text.proofs.ClipLaws.{append-both, append-whole}
+use Rattle.report.specs.Output.{refusalLine, sizesLine, taskLines, summaryLine, planLines, linesBy, linesFor, outputOf}
+use Rattle.report.specs.Reported.{Reported}
+
+pub refusal-whole : {t r : Text} (cause : Cause) → shown t ≡ [] → Appended t (refusalLine (numberOf cause) (placeOf cause)) 50 r
+    → shown r ≡ refusalLine (numberOf cause) (placeOf cause)
+refusal-whole cause e p = append-whole e p (omega arith)
+
+pub plan-whole : {t a b r : Text} (s : TaskSet) (plan : Allocation) → shown t ≡ [] → Appended t (sizesLine s) 69 a
+    → Appended a (taskLines (s .fields) (plan .placement) (s .fields .n)) 1344 b
+    → Appended b (summaryLine plan) 50 r → shown r ≡ planLines s plan
+unfolding planLines
+plan-whole s plan e p q u = append-whole e (append-both (append-both p q) u) (omega arith)
+
+-- The verdict of a plan is no refusal.
+verdict-accepted : (spent : Bool) (rejected : ℕ) → verdictOutcome (verdictOf spent rejected) ≡ outcome.Accepted
+unfolding verdictOf verdictOutcome
+verdict-accepted true rejected = refl
+verdict-accepted false zero = refl
+verdict-accepted false (suc rejected) = refl
+
+pub never-refused : (f : Fields) (limit : ℕ) {plan : Allocation} {v : Verdict} {cause : Cause} → plan ≡ planFor f limit → plan .verdict ≡ v → v ≡ verdict.Refused cause → ⊥
+unfolding planFor allocationOf verdictOutcome
+never-refused f limit {plan} e q h =
+    let a : verdictOutcome (plan .verdict) ≡ outcome.Accepted = rw e (verdict-accepted _ _) in
+    let z : _≡_ {A = ℕ} 0 1 = cc in
+    omega arith
+
+-- ---- the definition, by the outcome of the table's tests
+
+lines-refused : (s : List ℕ) {cause : Cause} → tableOutcome s ≡ outcome.Refused cause → outputOf s ≡ refusalLine (numberOf cause) (placeOf cause)
+unfolding outputOf linesFor linesBy planOf planBy refusedPlan verdictOutcome
+lines-refused s e = rw e
+
+lines-planned : (s : List ℕ) → tableOutcome s ≡ outcome.Accepted → outputOf s ≡ planLines (taskSetOf (fieldsOf s)) (planFor (fieldsOf s) 1000000)
+unfolding outputOf linesFor linesBy planOf planBy planFor allocationOf readingOf readingBy acceptedReading
+lines-planned s e = rw (e, verdict-accepted)
+
+-- ---- from the reader's answer to the output
+
+pub reading-checked : {g : Reading} {o : Outcome} → Reads g → g .outcome ≡ o → o ≡ outcome.Accepted → Checked (g .tasks)
+reading-checked r q h = r .checked (q ∙ h)
+
+pub reading-few : {g : Reading} {o : Outcome} → Reads g → g .outcome ≡ o → o ≡ outcome.Accepted → g .tasks .fields .n ≤ 16
+reading-few r q h = r .checked (q ∙ h) .within .sizes .tasks .1
+
+module _ (s : List ℕ) {g : Reading} (e : g ≡ readingOf s) where
+  reading-says : {o : Outcome} → g .outcome ≡ o → tableOutcome s ≡ o
+  unfolding readingOf
+  reading-says q = sym (reading-outcome (tableOutcome s) (fieldsOf s)) ∙ ap (λ x. x .outcome) (sym e) ∙ q
+
+  pub output-refused : {x : List ℕ} {o : Outcome} {cause : Cause} → g .outcome ≡ o → o ≡ outcome.Refused cause → x ≡ refusalLine (numberOf cause) (placeOf cause) → x ≡ outputOf s
+  output-refused q h p = p ∙ sym (lines-refused s (reading-says (q ∙ h)))
+
+  pub output-planned : {x : List ℕ} {o : Outcome} {plan : Allocation} → g .outcome ≡ o → o ≡ outcome.Accepted → plan ≡ planFor (g .tasks .fields) 1000000
+      → x ≡ planLines (g .tasks) plan → x ≡ outputOf s
+  unfolding readingOf taskSetOf
+  output-planned q h w p =
+      let t : g .tasks ≡ taskSetOf (fieldsOf s) =
+      ap (λ r. r .tasks) e ∙ reading-accepted (tableOutcome s) (fieldsOf s) (sym (ap (λ r. r .outcome) e) ∙ q ∙ h) in
+      p ∙ ap (λ a. planLines (g .tasks) a) w ∙ ap (λ u. planLines u (planFor (u .fields) 1000000)) t ∙ sym (lines-planned s (reading-says (q ∙ h)))
+
+-- ---- in the table's terms
+
+gives-refused : (o : Outcome) (number place : ℕ) → 1 ≤ number → Gives o number place
+    → (cause : Cause) × (o ≡ outcome.Refused cause) × (numberOf cause ≡ number) × (placeOf cause ≡ place)
+gives-refused outcome.Accepted number place h g = absurd (omega (arith, g .0))
+gives-refused (outcome.Refused cause) number place h g = (cause, refl, g .0, g .1)
+
+output-reported : (s : List ℕ) {x : List ℕ} → x ≡ outputOf s → Reported s x
+output-reported s e = record {
+  planned = λ v. e ∙ lines-planned s (accepts (decides (table-tested s)) .1 v);
+  refused = λ number place h f.
+      let g = gives-refused (tableOutcome s) number place h (decides (table-tested s) .refused number place h .1 f) in
+      e ∙ lines-refused s (g .1) ∙ rw (g .2, g .3);
+}
+
+-- both clauses of `report`
+pub output-both : (s : List ℕ) {x : List ℕ} → x ≡ outputOf s → (x ≡ outputOf s) × Reported s x
+output-both s e = (e, output-reported s e)

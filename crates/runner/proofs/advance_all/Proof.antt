@@ -1,0 +1,63 @@
+-- The slots before i have run and advanced.
+use Prim.Native.Nat.{_-_}
+use Rattle.runner.proofs.SlotLoops.{Sweeping, sweep-start, advancing, advance-next, advance-done}
+use borrow.Author.Needs.{needs}
+use Rattle.runner.proofs.advance_all.Statement.{statement}
+use Rattle.runner.proofs.advance_all.Tie as tie
+
+abbrev Inv-loop : tie.InvT-loop
+Inv-loop run next₀ i₀ next i = Sweeping (advancing run) next₀ next i
+
+abbrev μ-loop : tie.MeasureT-loop
+μ-loop run next₀ i₀ next i = 16 - i
+
+loop-holds : tie.Need-loop-holds Inv-loop μ-loop
+loop-holds c = sweep-start _ _ (search needs)
+
+mul-s : tie.Need-mul-s Inv-loop μ-loop
+mul-s c = search needs
+
+array-copy-out-s : tie.Need-array-copy-out-s Inv-loop μ-loop
+array-copy-out-s c = search needs
+
+add-advanced : tie.Need-add-advanced Inv-loop μ-loop
+add-advanced c = search needs
+
+advanced-requires : tie.Need-advanced-requires Inv-loop μ-loop
+advanced-requires c κs = search needs
+
+mul-next : tie.Need-mul-next Inv-loop μ-loop
+mul-next c = search needs
+
+array-set-from-next : tie.Need-array-set-from-next Inv-loop μ-loop
+array-set-from-next c = search needs
+
+add-i : tie.Need-add-i Inv-loop μ-loop
+add-i c = search needs
+
+loop-less : tie.Need-loop-less Inv-loop μ-loop
+loop-less c = search needs
+
+loop-again : tie.Need-loop-again Inv-loop μ-loop
+loop-again c = search (needs, advance-next)
+
+returns : tie.Need-returns Inv-loop μ-loop
+returns c = search (needs, advance-done)
+
+pub advance-all-spec : {M : Type 1} → statement M
+advance-all-spec =
+    tie.close
+    (tie.spec
+    Inv-loop
+    μ-loop
+    loop-holds
+    mul-s
+    array-copy-out-s
+    add-advanced
+    advanced-requires
+    mul-next
+    array-set-from-next
+    add-i
+    loop-less
+    loop-again
+    returns)

@@ -1,0 +1,81 @@
+-- What a fresh core is: the tests of its placement, core number and load, and the record that it starts from.
+use Prim.Native.Nat.{ℕ}
+use mathlib.Core.Bool.{Bool, not, cond}
+use mathlib.Core.List.{List, [], _∷_}
+use lib.Dec.{ltb, eqb}
+use lib.ListN.{length, take, replicate}
+use Rattle.numbers.specs.Bounds.{outside}
+use Rattle.numbers.specs.First.{first}
+use Rattle.numbers.specs.Loads.{demandOn}
+use Rattle.numbers.specs.Rows.{entry}
+use Rattle.refusal.specs.Tests.{_then_, refuseIf, refuseAt, inOrder}
+use Rattle.refusal.specs.declared.Cause.{Cause}
+use Rattle.refusal.specs.declared.Cause.the-variants.{Placement, CoreNumber, Overload}
+use Rattle.refusal.specs.declared.Outcome.{Outcome}
+use Rattle.refusal.specs.declared.Outcome.the-variants.{Accepted, Refused}
+use Rattle.taskset.specs.declared.Fields.{Fields}
+use Rattle.taskset.specs.declared.TaskSet.{TaskSet}
+use Rattle.taskset.specs.Reading.{taskSetOf}
+use Rattle.stored.specs.Form.{fieldsOf}
+use Rattle.stored.specs.Tests.{tableOutcome}
+use Rattle.edf.specs.declared.Slot.{Slot}
+use Rattle.edf.specs.Slots.{emptySlot}
+use Rattle.edf.specs.Fresh.{Tasks, plainTasks, freshSlots}
+use Rattle.start.specs.declared.Started.{Started}
+
+-- a table's tasks under a placement
+abbrev pub placedTasks : Fields → List ℕ → Tasks
+placedTasks f placement = plainTasks (f .n) (f .periods) (f .budgets) placement
+
+-- the load that a placement puts on a core
+unfoldable pub loadOf : TaskSet → List ℕ → ℕ → ℕ
+loadOf t placement core = demandOn core (take (t .fields .n) (t .demands)) placement
+
+-- number 9: the placement's length is not n,
+abbrev pub placesTest : Fields → List ℕ → Outcome
+placesTest f placement = refuseIf (not (eqb (length placement) (f .n))) (Placement 0)
+
+-- or an entry is above m
+unfoldable pub aboveAt : List ℕ → ℕ → ℕ → Bool
+aboveAt placement m k = ltb m (entry placement k)
+
+abbrev pub entriesTest : Fields → List ℕ → Outcome
+entriesTest f placement = refuseAt (first (aboveAt placement (f .m)) (f .n)) Placement
+
+-- number 10: the core number is 0 or above m
+abbrev pub coreTest : Fields → ℕ → Outcome
+coreTest f core = refuseIf (outside 1 (f .m) core) CoreNumber
+
+-- number 11: the chosen core's load is above the hyperperiod
+abbrev pub loadTest : TaskSet → List ℕ → ℕ → Outcome
+loadTest t placement core = refuseIf (ltb (t .hyperperiod) (loadOf t placement core)) Overload
+
+-- numbers 9 to 11, in their order
+abbrev pub placingTests : TaskSet → List ℕ → ℕ → List Outcome
+placingTests t placement core =
+    placesTest (t .fields) placement ∷ entriesTest (t .fields) placement ∷ coreTest (t .fields) core ∷ loadTest t placement core ∷ []
+
+-- the slot of a task on the core, before its first release; all zeros if it is on another
+abbrev pub slotFor : ℕ → ℕ → ℕ → ℕ → Slot
+slotFor period budget placed core = cond (eqb placed core) (record { period = period; budget = budget; until = 0; remaining = 0 }) emptySlot
+
+-- the answer where the call is refused: a record of zeros beside the cause
+unfoldable pub refusedStart : Cause → Started
+refusedStart cause = record { outcome = Refused cause; core = record { slots = replicate 16 emptySlot } }
+
+-- the answer by the outcome of the tests
+unfoldable pub startBy : Outcome → Tasks → ℕ → Started
+startBy (Refused cause) tasks core = refusedStart cause
+startBy Accepted tasks core = record { outcome = Accepted; core = record { slots = freshSlots tasks core } }
+
+-- the outcome of the tests of a checked task set, a placement and a core number
+unfoldable pub placingOutcome : TaskSet → List ℕ → ℕ → Outcome
+placingOutcome t placement core = inOrder (placingTests t placement core)
+
+-- the table's tests come first
+unfoldable pub startOutcome : List ℕ → List ℕ → ℕ → Outcome
+startOutcome table placement core = tableOutcome table then placingOutcome (taskSetOf (fieldsOf table)) placement core
+
+-- the answer for a table, a placement and a core number
+unfoldable pub startOf : List ℕ → List ℕ → ℕ → Started
+startOf table placement core = startBy (startOutcome table placement core) (placedTasks (fieldsOf table) placement) core

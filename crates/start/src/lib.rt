@@ -1,0 +1,202 @@
+// A fresh core: the record that a core of a table starts from under a placement, or a refusal.
+ghost use mathlib.Core.Path.{_≡_};
+ghost use mathlib.Core.Bool.{cond, _&&_};
+ghost use Prim.Native.Nat.{_≤_, _<_};
+ghost use lib.Dec.{eqb, ltb};
+ghost use lib.ListN.{length, getD};
+ghost use Rattle.numbers.specs.First.{first};
+ghost use Rattle.edf.specs.Fresh.{freshSlots};
+ghost use Rattle.refusal.specs.Conditions.{Decides};
+ghost use Rattle.taskset.specs.Limits.{Checked};
+ghost use Rattle.start.specs.Starts.{placedTasks, loadOf, placesTest, aboveAt, entriesTest, coreTest, loadTest, placingOutcome, slotFor, refusedStart, startBy, startOf};
+ghost use Rattle.start.specs.Limits.{ValidStart, startConditions, Starts};
+use edf::Slot;
+use refusal::Cause;
+use refusal::Outcome;
+use runner::Core;
+use taskset::Fields;
+use taskset::TaskSet;
+
+// What a fresh core hands back: its record, or zeros and the cause of refusal.
+pub struct Started {
+    pub outcome: Outcome,
+    pub core: Core,
+}
+
+// Number 9: the placement's length is not n,
+fn places_test(f: Fields, placement: &[u8]) -> Outcome
+    ensures { λ r. ⌜ r ≡ placesTest f (now (placement .entry)) ⌝ }
+{
+    refusal::refuse_if(placement.len() != f.n, Cause::Placement(0))
+}
+
+// Whether the task at `k` is placed above core `m`.
+fn is_above(placement: &[u8], m: usize, k: usize) -> bool
+    ensures { λ r. ⌜ r ≡ aboveAt (now (placement .entry)) m k ⌝ }
+{
+    m < wire::size(wire::byte(placement, k))
+}
+
+// The first of `n` tasks, from 1, that is placed above core `m`; 0 if there is none.
+fn first_above(placement: &[u8], n: usize, m: usize) -> usize
+    ensures { λ r. ⌜ r ≡ first (aboveAt (now (placement .entry)) m) n ⌝ }
+{
+    let mut k = 0;
+    while k < n {
+        if is_above(placement, m, k) {
+            return k + 1;
+        }
+        k += 1;
+    }
+    0
+}
+
+// or an entry is above m.
+fn entries_test(f: Fields, placement: &[u8]) -> Outcome
+    ensures { λ r. ⌜ r ≡ entriesTest f (now (placement .entry)) ⌝ }
+{
+    let task = first_above(placement, f.n, f.m);
+    refusal::refuse_if(task != 0, Cause::Placement(task))
+}
+
+// Number 10.
+fn core_test(f: Fields, core: u8) -> Outcome
+    ensures { λ r. ⌜ r ≡ coreTest f core ⌝ }
+{
+    refusal::refuse_if(
+        numbers::outside(1, f.m as u64, core as u64),
+        Cause::CoreNumber,
+    )
+}
+
+// Whether the placement puts the task at `k` on the core.
+fn is_on(placement: &[u8], k: usize, core: u8) -> bool
+    ensures { λ r. ⌜ r ≡ (ltb k (length (now (placement .entry))) && eqb (getD (now (placement .entry)) k 0) core) ⌝ }
+{
+    (k < placement.len()) & (wire::byte(placement, k) == core)
+}
+
+// The demand of a task, if it is on the core.
+fn share(demand: u32, on: bool) -> u32
+    ensures { λ r. ⌜ r ≡ cond on demand 0 ⌝ }
+{
+    if on { demand } else { 0 }
+}
+
+// The load of a core: the sum of the demands of the tasks that are on it.
+fn load_on(t: TaskSet, placement: &[u8], core: u8) -> u32
+    requires { ⌜ Checked t ⌝ }
+    ensures { λ r. ⌜ r ≡ loadOf t (now (placement .entry)) core ⌝ }
+{
+    let mut sum: u32 = 0;
+    let mut k: usize = 0;
+    while k < t.fields.n {
+        sum += share(t.demands[k], is_on(placement, k, core));
+        k += 1;
+    }
+    sum
+}
+
+// Number 11.
+fn load_test(t: TaskSet, placement: &[u8], core: u8) -> Outcome
+    requires { ⌜ Checked t ⌝ }
+    ensures { λ r. ⌜ r ≡ loadTest t (now (placement .entry)) core ⌝ }
+{
+    let load = load_on(t, placement, core);
+    refusal::refuse_if(t.hyperperiod < load, Cause::Overload)
+}
+
+// Numbers 9 to 11.
+fn placing_tests(t: TaskSet, placement: &[u8], core: u8) -> Outcome
+    requires { ⌜ Checked t ⌝ }
+    ensures { λ r. ⌜ r ≡ placingOutcome t (now (placement .entry)) core ⌝ }
+{
+    let f = t.fields;
+    let places = places_test(f, placement);
+    let entries = entries_test(f, placement);
+    let number = core_test(f, core);
+    let load = load_test(t, placement, core);
+    let last = refusal::then(number, load);
+    let later = refusal::then(entries, last);
+    refusal::then(places, later)
+}
+
+// The slot of a task on the core, before its first release; all zeros if it is on another.
+fn fresh_slot(period: u32, budget: u32, placed: u8, core: u8) -> Slot
+    ensures { λ r. ⌜ r ≡ slotFor period budget placed core ⌝ }
+{
+    if placed == core {
+        Slot {
+            period: period,
+            budget: budget,
+            until: 0,
+            remaining: 0,
+        }
+    } else {
+        Slot::empty()
+    }
+}
+
+// The slots of a fresh core record.
+fn fresh_slots(f: Fields, placement: &[u8], core: u8) -> [Slot; 16]
+    requires { ⌜ f .n ≤ 16 ⌝ }
+    ensures { λ r. ⌜ r ≡ freshSlots (placedTasks f (now (placement .entry))) core ⌝ }
+{
+    let empty = Slot::empty();
+    let mut slots = [empty; 16];
+    let mut k: usize = 0;
+    while k < f.n {
+        slots[k] = fresh_slot(f.periods[k], f.budgets[k], wire::byte(placement, k), core);
+        k += 1;
+    }
+    slots
+}
+
+// A refusal, with a record of zeros beside its cause.
+fn refused(cause: Cause) -> Started
+    ensures { λ r. ⌜ r ≡ refusedStart cause ⌝ }
+{
+    let empty = Slot::empty();
+    let core = Core { slots: [empty; 16] };
+    Started {
+        outcome: Outcome::Refused(cause),
+        core: core,
+    }
+}
+
+// The fresh record of a checked task set, or the first cause of refusal.
+pub fn start(t: TaskSet, placement: &[u8], core: u8) -> Started
+    requires { ⌜ Checked t ⌝ }
+    ensures { λ r. ⌜ r ≡ startBy (placingOutcome t (now (placement .entry)) core) (placedTasks (t .fields) (now (placement .entry))) core ⌝ }
+{
+    let outcome = placing_tests(t, placement, core);
+    match outcome {
+        Outcome::Refused(cause) => refused(cause),
+        Outcome::Accepted => {
+            let f = t.fields;
+            let slots = fresh_slots(f, placement, core);
+            let record = Core { slots: slots };
+            Started {
+                outcome: Outcome::Accepted,
+                core: record,
+            }
+        }
+    }
+}
+
+// The record that core `number` of a stored table starts from under a placement, or the first cause of refusal.
+pub fn fresh(table: &[u8], placement: &[u8], number: u8) -> Started
+    ensures answer { λ r. ⌜ r ≡ startOf (now (table .entry)) (now (placement .entry)) number ⌝ }
+    ensures decides { λ r. ⌜ Decides (ValidStart (now (table .entry)) (now (placement .entry)) number) (startConditions (now (table .entry)) (now (placement .entry)) number) (r .outcome) ⌝ }
+    ensures starts { λ r. ⌜ Starts (now (table .entry)) (now (placement .entry)) number r ⌝ }
+{
+    let reading = stored::read_table(table);
+    let outcome = reading.outcome;
+    match outcome {
+        Outcome::Refused(cause) => refused(cause),
+        Outcome::Accepted => {
+            let tasks = reading.tasks;
+            start(tasks, placement, number)
+        }
+    }
+}

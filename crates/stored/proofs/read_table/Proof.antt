@@ -1,0 +1,23 @@
+-- The bytes are decoded, their shape is tested, then the limits of the fields.
+use Rattle.stored.proofs.TableLaws.{shape-says, read-answer, read-decides, read-reads}
+use borrow.Author.Needs.{needs}
+use Rattle.stored.proofs.read_table.Statement.{statement}
+use Rattle.stored.proofs.read_table.Tie as tie
+
+decode-requires : tie.Need-decode-requires
+decode-requires c κs = search needs
+
+shape-tests-requires : tie.Need-shape-tests-requires
+shape-tests-requires c κs = search needs
+
+check-after-requires : tie.Need-check-after-requires
+check-after-requires c κs = shape-says _ (c .before .decode .ensures) (c .shape-tests .ensures)
+
+returns : tie.Need-returns
+returns c =
+    let e = read-answer _ (c .before .before .decode .ensures) (c .before .shape-tests .ensures) (c .check-after .ensures) in
+    (e, (read-decides _ e, read-reads _ e))
+
+pub read-table-spec : {M : Type 1} → statement M
+read-table-spec =
+    tie.close (tie.spec decode-requires shape-tests-requires check-after-requires returns)

@@ -1,0 +1,29 @@
+-- The tests of a stored table, numbers 1 to 7 in their order, and what reading it gives.
+use Prim.Native.Nat.{ℕ, _+_, _*_}
+use mathlib.Core.List.{List, _∷_, _++_}
+use mathlib.Core.Bool.{not}
+use lib.Dec.{ltb, eqb}
+use lib.ListN.{length}
+use Rattle.refusal.specs.Tests.{refuseIf, inOrder}
+use Rattle.refusal.specs.declared.Cause.the-variants.{TooShort, Length}
+use Rattle.refusal.specs.declared.Outcome.{Outcome}
+use Rattle.taskset.specs.Tests.{sizeTests, limitTests}
+use Rattle.taskset.specs.Reading.{readingBy}
+use Rattle.taskset.specs.declared.Reading.{Reading}
+use Rattle.stored.specs.Form.{taskCount, fieldsOf}
+
+-- number 1: the table is shorter than 2 bytes
+abbrev pub shortTest : List ℕ → Outcome
+shortTest s = refuseIf (ltb (length s) 2) TooShort
+
+-- number 4: the length is other than 2 + 8 times n
+abbrev pub lengthTest : List ℕ → Outcome
+lengthTest s = refuseIf (not (eqb (length s) (2 + 8 * taskCount s))) Length
+
+-- number 1, the sizes, number 4, the limits
+unfoldable pub tableOutcome : List ℕ → Outcome
+tableOutcome s = inOrder (shortTest s ∷ sizeTests (fieldsOf s) ++ lengthTest s ∷ limitTests (fieldsOf s))
+
+-- the answer for a table
+unfoldable pub readingOf : List ℕ → Reading
+readingOf s = readingBy (tableOutcome s) (fieldsOf s)

@@ -1,0 +1,44 @@
+-- A loop that appends a piece for each of sixteen elements.
+use Prim.Native.Nat.{ℕ, _+_, _*_, _≤_, _<_}
+use mathlib.Core.Path.{_≡_, sym, _∙_, ap}
+use mathlib.Core.List.{List, [], _∷_, _++_, append-assoc, append-nil}
+use lib.ListN.{length, take, getD}
+use lib.Seq.{take-all, take-suc}
+use native.Mathlib.Omega.{arith}
+use native.Mathlib.Numerals.{add-one}
+use Rattle.text.specs.Shown.{Appended}
+use Rattle.text.specs.Joined.{joined}
+use Rattle.text.specs.declared.Text.{Text}
+use Rattle.text.proofs.ClipLaws.{append-none, append-both, append-within}
+
+joined-more : {A : Type 0} (piece : A → List ℕ) (xs : List A) (y : A) → joined piece (xs ++ y ∷ []) ≡ joined piece xs ++ piece y
+unfolding joined
+joined-more piece [] y = append-nil (piece y)
+joined-more piece (x ∷ xs) y = ap (λ l. piece x ++ l) (joined-more piece xs y) ∙ sym (append-assoc (piece x) (joined piece xs) (piece y))
+
+-- the pieces of the first k elements are there
+pub record Joined {A : Type 0} (piece : A → List ℕ) (most : ℕ) (t : Text) (l : List A) (r : Text) (k : ℕ) : Type 0 where
+  pub size : length l ≡ 16
+  pub top : k ≤ 16
+  pub is : Appended t (joined piece (take k l)) (most * k) r
+
+pub join-start : {A : Type 0} (piece : A → List ℕ) (most : ℕ) (t : Text) (l : List A) → length (t .bytes) ≡ 2048 → length l ≡ 16 → Joined piece most t l t 0
+unfolding joined
+join-start piece most t l b h = record { size = h; top = omega arith; is = append-within (most * 0) (append-none t b) (omega arith) }
+
+module _ {A : Type 0} {piece : A → List ℕ} {most : ℕ} {t : Text} {l : List A} {r : Text} {k : ℕ} where
+  pub join-next : (d : A) {next : Text} → Joined piece most t l r k → k < 16 → Appended r (piece (getD l k d)) most next → Joined piece most t l next (k + 1)
+  join-next d s h p = record {
+    size = s .size;
+    top = omega arith;
+    is =
+        let more : joined piece (take (k + 1) l) ≡ joined piece (take k l) ++ piece (getD l k d) =
+        rw (add-one, take-suc l k d (omega (arith, s .size))) (joined-more piece (take k l) (getD l k d)) in
+        rw more (append-within (most * (k + 1)) (append-both (s .is) p) (omega arith));
+  }
+
+  pub join-done : (bound : ℕ) → Joined piece most t l r k → 16 ≤ k → most * 16 ≤ bound → Appended t (joined piece l) bound r
+  join-done bound s h b =
+      let e : k ≡ 16 = omega (arith, s .top) in
+      let whole : take 16 l ≡ l = take-all 16 l (omega (arith, s .size)) in
+      append-within bound (rw whole at (rw e at (s .is))) b

@@ -1,0 +1,4 @@
+pub mod ClipLaws
+pub mod DecimalLaws
+pub mod NumberLaws
+pub mod JoinLaws

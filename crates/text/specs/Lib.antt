@@ -1,0 +1,4 @@
+pub mod Shown
+pub mod Decimal
+pub mod Ascii
+pub mod Joined

@@ -1,0 +1,34 @@
+"""Code 1, the reader of the old form. Block: table. Values: n, m, hyperperiod, then sixteen each of
+periods, budgets, demands and task numbers in planning order."""
+
+from samples import (damaged, entries, hyperperiods, paper_rows, planning_orders, random_table,
+                     sets_of_faults, shapes)
+from tables import Refusal, read_table
+
+CODE, STORED, FRESH = 1, 250, 2000
+HEAD, FREE = 1, {0}
+
+
+def contents(table):
+    return [table]
+
+
+def lines(table):
+    answer = read_table(table)
+    if isinstance(answer, Refusal):
+        return [[*answer] + [0] * 67]
+    rows = [answer.periods, answer.budgets, answer.demands, answer.order]
+    return [[0, 0, answer.n, answer.m, answer.hyperperiod, *sum(map(sixteen, rows), [])]]
+
+
+def sixteen(row):
+    return row + [0] * (16 - len(row))
+
+
+def edges():
+    return [(table,) for table in paper_rows() + shapes() + entries() + sets_of_faults()
+            + hyperperiods() + planning_orders()]
+
+
+def draw(rng):
+    return (damaged(rng, random_table(rng, rng.randint(1, 16), rng.randint(1, 4))),)

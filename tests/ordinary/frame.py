@@ -1,0 +1,24 @@
+"""The frame of the program `cases`: how a case's bytes and a line are written."""
+
+
+def number(value):
+    """A number's four bytes, lowest first."""
+    return value.to_bytes(4, "little")
+
+
+def numbers(values):
+    return b"".join(number(value) for value in values)
+
+
+def block(content):
+    """A block: its length in two bytes, lowest first, then its bytes."""
+    return len(content).to_bytes(2, "little") + content
+
+
+def case(code, contents):
+    """The code, then a block for each of these contents."""
+    return bytes([code]) + b"".join(block(content) for content in contents)
+
+
+def line(values):
+    return " ".join(map(str, values)) + "\n"

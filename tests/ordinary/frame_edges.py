@@ -1,0 +1,93 @@
+"""Holds the program `cases` to its frame's own edges. An input that ends inside a case, an unknown
+code and a block of a wrong length each end the program; the lines that stand before are kept.
+
+usage: python3 frame_edges.py PROGRAM
+"""
+
+import subprocess
+import sys
+
+import frame
+from calls import core, plan, read, tick
+from samples import LARGEST_WORD, table_of
+from ticks import EMPTY, Slot
+
+LONGEST = 1024
+FULL = [LARGEST_WORD] * 16
+ROW_C = table_of(1, [2, 3, 6], [1, 1, 1])
+
+# A small input of each call, of a fresh core one accepted, one refused and one without a tick.
+SMALL = [
+    (read, (ROW_C,)),
+    (plan, (table_of(1, [10] * 3, [7, 6, 4]), 6)),
+    (core, (ROW_C, [1, 1, 1], 1, [FULL] * 3)),
+    (core, (ROW_C, [1, 1, 1], 2, [FULL] * 2)),
+    (core, (ROW_C, [1, 0, 1], 1, [])),
+    (tick, ([Slot(4, 2, 0, 1)] + [EMPTY] * 15, FULL)),
+]
+GOOD = frame.case(read.CODE, [ROW_C])
+
+
+def main():
+    program = sys.argv[1]
+    inputs = [*cut_short(), *unknown_codes(), *wrong_lengths(), fewer_ticks_than_counted()]
+    for data, expected in inputs:
+        run = subprocess.run([program], input=data, capture_output=True, check=False)
+        if run.returncode < 0 or run.stdout.decode() != expected:
+            sys.exit(f"cases differs on the input {data.hex()}:\n{run.stdout.decode()}")
+    print(f"{len(inputs)} inputs")
+
+
+def standing(call, given, blocks):
+    """What is printed of a case of which so many blocks are in order."""
+    lines = call.lines(*given)[:max(0, blocks - call.HEAD + 1)]
+    return "".join(map(frame.line, lines))
+
+
+def cut_short():
+    """Every beginning of the small inputs in a row."""
+    whole, printed = b"", ""
+    for call, given in SMALL:
+        contents = call.contents(*given)
+        ends = [len(frame.case(call.CODE, contents[:k])) for k in range(1, len(contents) + 1)]
+        data = frame.case(call.CODE, contents)
+        for length in range(len(data)):
+            blocks = sum(end <= length for end in ends)
+            yield whole + data[:length], printed + standing(call, given, blocks)
+        whole, printed = whole + data, printed + standing(call, given, len(contents))
+    yield whole, printed
+
+
+def unknown_codes():
+    """A good case, an unknown code, and a case that is not reached."""
+    for code in (0, 100, 200, 255):
+        yield GOOD + bytes([code]) + GOOD, standing(read, (ROW_C,), 1)
+
+
+def wrong_lengths():
+    """Each block of each small input with another length, followed by a case that is not reached;
+    and the longest block that a table or placement may have."""
+    for call, given in SMALL:
+        contents = call.contents(*given)
+        for k, content in enumerate(contents):
+            wrong = [bytes(LONGEST + 1), bytes(65_535)]
+            if k not in call.FREE:
+                wrong += [content + b"\0", content[:-1], b"", content + bytes(256)]
+            for other in wrong:
+                data = frame.case(call.CODE, contents[:k] + [other] + contents[k + 1:])
+                yield data + GOOD, standing(call, given, k)
+    longest = bytes([16, 4]) + bytes(LONGEST - 2)
+    yield frame.case(read.CODE, [longest]) + GOOD, (standing(read, (longest,), 1)
+                                                    + standing(read, (ROW_C,), 1))
+
+
+def fewer_ticks_than_counted():
+    """The largest count of ticks, of which three are there."""
+    given = (ROW_C, [1, 1, 1], 1, [FULL] * 3)
+    contents = core.contents(*given)
+    contents[core.HEAD - 1] = frame.number(LARGEST_WORD)
+    return frame.case(core.CODE, contents), standing(core, given, len(contents))
+
+
+if __name__ == "__main__":
+    main()

@@ -1,0 +1,266 @@
+"""Tables as bytes: random ones, and those that show each refusal and each way of planning."""
+
+from itertools import combinations
+
+from frame import number, numbers
+
+LARGEST_WORD = 2**32 - 1
+
+# Hyperperiods with many divisors, small and large, and some with few.
+FRAMES = [1, 2, 6, 7, 10, 12, 24, 30, 60, 100, 120, 128, 210, 360, 720, 840, 1000, 2520, 5040,
+          9973, 10000, 27720, 55440, 65536, 100000, 110880, 166320, 262144, 277200, 332640,
+          498960, 531441, 554400, 665280, 720720, 823543, 997002, 1000000]
+
+
+def table_of(m, periods, budgets):
+    """A table with these numbers, whether or not they are allowed."""
+    return bytes([len(periods), m]) + numbers(periods) + numbers(budgets)
+
+
+def put(row, at, entry):
+    """The row with one entry changed."""
+    return list(row[:at]) + [entry] + list(row[at + 1:])
+
+
+# Random tables.
+
+def divisors(hyperperiod, longest=10_000):
+    """The periods, up to `longest`, that divide a hyperperiod."""
+    return [d for d in range(1, min(hyperperiod, longest) + 1) if hyperperiod % d == 0]
+
+
+def random_periods(rng, n):
+    """Periods with a common hyperperiod; short lists of choices make many equal ones."""
+    choices = divisors(rng.choice(FRAMES))
+    if rng.random() < 0.5:
+        choices = rng.sample(choices, min(len(choices), rng.randint(1, 3)))
+    return [rng.choice(choices) for _ in range(n)]
+
+
+def random_table(rng, n, m):
+    """An accepted table. Its load is often about what the cores hold, at times far below or above;
+    every third table is made of few different budgets, so that equal demands are common."""
+    periods = random_periods(rng, n)
+    load = rng.choice([rng.uniform(0.1, 1.6), rng.uniform(0.8, 1.2)])
+    share = min(1, load * m / n)
+    if rng.random() < 1 / 3:
+        parts = [rng.choice([1 / 4, 1 / 3, 1 / 2, 2 / 3, share]) for _ in range(n)]
+    else:
+        parts = [rng.uniform(0, min(1, 2 * share)) for _ in range(n)]
+    budgets = [max(1, round(p * part)) for p, part in zip(periods, parts)]
+    return table_of(m, periods, budgets)
+
+
+def damaged(rng, table):
+    """Four times in five the table as it is, otherwise one with some damage."""
+    n, m = table[0], table[1]
+    damage = rng.randint(1, 25)
+    if damage == 1:
+        return rng.randbytes(rng.randint(0, 140))
+    if damage == 2:
+        return (table + bytes(8))[:rng.randint(0, len(table) + 8)]
+    if damage == 3:
+        return bytes(put(table, rng.randrange(len(table)), rng.randrange(256)))
+    if damage == 4:
+        at = 2 + 4 * rng.randrange(2 * n)
+        entry = rng.choice([0, 1, 10_000, 10_001, 65_537, 2**31, LARGEST_WORD])
+        return table[:at] + number(entry) + table[at + 4:]
+    if damage == 5:
+        periods = [rng.randint(1, 10_000) for _ in range(n)]
+        return table_of(m, periods, [rng.randint(1, p) for p in periods])
+    return table
+
+
+# Tables that are not drawn at random.
+
+def paper_rows():
+    """Rows a to d and j to l of the scope paper, and its listing."""
+    return [
+        table_of(1, [10, 10], [3, 7]),
+        table_of(1, [10, 10], [3, 8]),
+        table_of(1, [2, 3, 6], [1, 1, 1]),
+        table_of(2, [10] * 5, [5, 5, 4, 3, 3]),
+        table_of(1, [10] * 3, [7, 6, 4]),
+        table_of(1, [1000, 999], [1, 1]),
+        table_of(1, [1000, 1001], [1, 1]),
+        bytes([1]),
+        bytes([17, 1]),
+        table_of(1, [10], [11]),
+    ]
+
+
+def shapes():
+    """Lengths, task counts and core counts at their edges (numbers 1 to 4), up to the longest block."""
+    tables = [b"", b"\x00", b"\x10", b"\x11", b"\xff"]
+    for n in (0, 1, 16, 17, 255):
+        for m in (0, 1, 4, 5, 255):
+            tables.append(bytes([n, m]))
+            tables.append((bytes([n, m]) + bytes([1, 0, 0, 0]) * 2 * n)[:255])
+    for n in (1, 2, 15, 16):
+        full = table_of(4, [10] * n, [1] * n)
+        for length in (3, 2 + 4 * n, 1 + 8 * n, 3 + 8 * n, 10 + 8 * n):
+            tables.append((full + bytes(8))[:length])
+    sixteen = table_of(4, [10] * 16, [1] * 16)
+    # The lengths of a longer table, and lengths that agree with it in the lowest byte.
+    tables += [sixteen + bytes(longer) for longer in (8, 125, 126, 256, 894)]
+    tables.append(table_of(1, [10], [1]) + bytes(256))
+    return tables
+
+
+def entries():
+    """Each edge of a period and of a budget, at the first, a middle and the last task
+    (numbers 5 and 6). 65,546 and its like have small low bytes and must not be cut."""
+    tables = []
+    for at in (0, 2, 4):
+        for period in (0, 1, 10_000, 10_001, 65_536, 65_546, 2**24 + 10, 2**31, LARGEST_WORD):
+            tables.append(table_of(2, put([10] * 5, at, period), [1] * 5))
+        for budget in (0, 1, 9, 10, 11, 266, 65_546, 2**24 + 10, LARGEST_WORD):
+            tables.append(table_of(2, [10] * 5, put([1] * 5, at, budget)))
+    for period in (1, 2, 256, 10_000):
+        for budget in (period - 1, period, period + 1):
+            tables.append(table_of(1, [period], [budget]))
+    # Every task of sixteen may be the first.
+    for at in range(16):
+        tables.append(table_of(4, put([10] * 16, at, 0), [1] * 16))
+        tables.append(table_of(4, [10] * 16, put([1] * 16, at, 11)))
+    # Of several such tasks the first is named.
+    tables.append(table_of(2, [10, 0, 10_001], [1, 1, 1]))
+    tables.append(table_of(2, [10, 10_001, 0], [1, 1, 1]))
+    tables.append(table_of(2, [10, 10, 10], [1, 11, 0]))
+    tables.append(table_of(2, [10, 10, 10], [1, 0, 11]))
+    # Each budget is held against its own period.
+    tables.append(table_of(2, [5, 10], [10, 5]))
+    tables.append(table_of(2, [10, 5], [5, 10]))
+    # All periods come before all budgets.
+    tables.append(table_of(2, [10, 0], [0, 1]))
+    tables.append(table_of(2, [10, 10_001], [11, 1]))
+    return tables
+
+
+def sets_of_faults():
+    """Every set of the numbers 2 to 7 at once; the lowest of the set must win."""
+    tables = []
+    for size in range(7):
+        for faults in combinations(range(2, 8), size):
+            periods, budgets = [10, 20, 30], [1, 2, 3]
+            if 7 in faults:
+                periods[:2] = [1000, 1001]
+            if 6 in faults:
+                budgets[0] = 0
+            if 5 in faults:
+                periods[2] = 0
+            table = bytearray(table_of(2, periods, budgets))
+            if 4 in faults:
+                table.append(0)
+            if 3 in faults:
+                table[1] = 5
+            if 2 in faults:
+                table[0] = 17
+            tables.append(bytes(table))
+    return tables
+
+
+def hyperperiods():
+    """Hyperperiods at and around the limit (number 7). No table has exactly 1,000,000: it holds
+    the factor 15,625, which is longer than any period. Nearest are 999,999 and 1,000,001."""
+    rows = [
+        # 999,999
+        [999, 1001], [1001, 999], [27, 37, 1001], [189, 5291], [2849, 351], [27, 7, 11, 13, 37],
+        # 999,996, 999,990 and 999,000
+        [2004, 499], [3690, 271], [1000, 999],
+        # 1,000,001, 1,000,004 and 1,001,000
+        [101, 9901], [9901, 101], [356, 2809], [1001, 1000],
+        # passed at the second task by far, at a middle task, at the last
+        [10_000, 9999], [9973, 9967], [7, 11, 13, 1009, 2], [16, 625, 3, 7, 11, 2],
+        [10, 100] * 7 + [1000, 1001], [1000] * 14 + [999, 1001],
+        # passed, and then periods that add nothing
+        [1000, 1001, 1, 1], [1000, 1001, 1000, 1001],
+        # products that are small again in 32 bits: 2^32 + 24, 2^32 + 33, 2 * 2^32 + 19
+        [8069, 56, 9505], [8839, 101, 4811], [3919, 239, 9171], [8069, 56, 9505, 1],
+        # multiples within the limit whose plain products pass 2^32
+        [7920, 9360, 9240, 8190, 7280], [6930, 6552, 9240, 10, 9360], [8000, 10_000, 6250, 3200],
+        # a divisor and a multiple of what went before, and sixteen tasks within the limit
+        [10, 5, 1, 20, 4], [1], [10_000], [10_000] * 16, [1] * 16, [1000] * 14 + [999, 999],
+    ]
+    tables = []
+    for periods in rows:
+        tables.append(table_of(3, periods, [1] * len(periods)))
+        tables.append(table_of(3, periods, periods))
+    return tables
+
+
+def planning_orders():
+    """Equal demands, also of different periods, and all sixteen tasks."""
+    up = list(range(1, 17))
+    return [
+        table_of(2, [10, 1000], [5, 500]),
+        table_of(2, [1000, 10], [500, 5]),
+        table_of(2, [1000, 10, 20, 40], [500, 5, 10, 21]),
+        table_of(2, [40, 20, 10, 1000], [20, 10, 6, 500]),
+        table_of(2, [10] * 3, [5, 5, 6]),
+        table_of(2, [10] * 3, [6, 5, 5]),
+        table_of(2, [10] * 3, [5, 6, 5]),
+        # the heavier demand has the smaller budget
+        table_of(1, [2, 1000], [1, 400]),
+        # demands that differ by one part in 720,720, and full ones
+        table_of(4, [9009, 9240, 9360], [4505, 4620, 4680]),
+        table_of(4, [9009, 9240, 9360], [9009, 9240, 9360]),
+        table_of(4, [100] * 16, [7] * 16),
+        table_of(4, [100] * 16, up),
+        table_of(4, [100] * 16, up[::-1]),
+        table_of(4, [100] * 16, [k % 3 + 1 for k in up]),
+        table_of(4, [10, 100] * 8, [1, 10] * 8),
+        table_of(4, [100, 10] * 8, [10, 1] * 8),
+        table_of(1, [16 * k for k in (1, 2, 4, 8) * 4], [k * k for k in (1, 2, 4, 8) * 4]),
+        table_of(4, up[:12], up[:12]),
+    ]
+
+
+def telling_tables():
+    """Small tables on each of which some wrong walk shows."""
+    return [
+        # the listing; and times of which a walk that drops the heaviest rejects 7 instead of 6
+        table_of(1, [10] * 3, [7, 6, 4]),
+        table_of(1, [10] * 3, [7, 6, 3]),
+        # the two heaviest tasks belong on one core
+        table_of(2, [10] * 5, [5, 5, 4, 3, 3]),
+        # only the excess ends this walk after five steps
+        table_of(2, [10] * 5, [5, 5, 5, 5, 1]),
+        # of two equal tasks the first is placed; full cores leave the light task out
+        table_of(1, [10] * 2, [6, 6]),
+        table_of(2, [10] * 3, [10, 10, 1]),
+        # a walk whose incumbent is beaten after its tenth step
+        table_of(1, [10] * 5, [8, 6, 3, 3, 3]),
+        # a core that is exactly full, one part above, and one part in 999,999 above and below
+        table_of(1, [2, 3, 6], [1, 1, 1]),
+        table_of(1, [2, 3, 6], [1, 1, 2]),
+        table_of(1, [999, 1001], [500, 500]),
+        table_of(1, [999, 1001], [499, 501]),
+        # equal demands: table order decides, and the lower core
+        table_of(2, [10] * 4, [5, 5, 5, 5]),
+        table_of(2, [10, 1000, 20], [6, 600, 12]),
+        table_of(3, [10] * 6, [4, 4, 4, 4, 4, 4]),
+        # planning order is not table order
+        table_of(2, [10] * 6, [1, 2, 3, 4, 5, 6]),
+        table_of(2, [40, 20, 10, 1000], [20, 10, 6, 500]),
+        # no two tasks fit together; more tasks than cores
+        table_of(4, [10] * 6, [6, 7, 8, 9, 10, 6]),
+        table_of(4, [7] * 6, [7] * 6),
+        # the smallest tables, and a core left empty
+        table_of(1, [1], [1]),
+        table_of(4, [10_000], [10_000]),
+        table_of(4, [10_000], [1]),
+        # a long walk for six tasks, 326 steps
+        table_of(4, [100] * 6, [93, 86, 79, 71, 70, 48]),
+    ]
+
+
+def larger_tables():
+    """Up to sixteen tasks, more than can be planned by trying all placements."""
+    up = list(range(1, 17))
+    return [
+        table_of(m, [100] * 16, budgets)
+        for m in (1, 2, 3, 4)
+        for budgets in (up, up[::-1], [7] * 16, [100] * 16, [19 + k for k in up],
+                        [30 + 7 * k % 11 for k in up])
+    ] + [table_of(3, [60, 72, 90] * n, [7, 19, 31] * n) for n in (3, 4, 5)]
