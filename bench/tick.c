@@ -27,7 +27,7 @@ static int cannot_be(const struct slot *s)
            || s->remaining > s->budget;
 }
 
-static __attribute__((noinline)) struct answer
+static MEASURED struct answer
 tick(struct slot core[TASKS], const uint32_t request[TASKS])
 {
     struct answer answer = {0, 0, 0, 0};
@@ -105,25 +105,25 @@ int main(void)
             put_word(table + 2 + 4 * (TASKS + k), samples[s].budgets[k]);
         }
 
-        /* The best of a few rounds, taken in turn. */
-        double plain = 1e9, tested = 1e9;
+        /* The two take turns. */
+        double plain[ROUNDS], tested[ROUNDS];
         for (int round = 0; round < ROUNDS; round++) {
             const double start = now();
             const uint32_t ours = run_ticks(samples[s].periods, samples[s].budgets, TICKS);
             const double middle = now();
             const uint64_t theirs = bench_tick(table, sizeof table, TICKS);
-            const double end = now();
+            tested[round] = now() - middle;
+            plain[round] = middle - start;
             if (theirs != ours) {
                 printf("sums of tasks run differ: %u and %llu\n", ours, (unsigned long long)theirs);
                 return 1;
             }
-            plain = middle - start < plain ? middle - start : plain;
-            tested = end - middle < tested ? end - middle : tested;
         }
-        printf("%-28s %10.1f %14.1f %8.2f\n", samples[s].name, plain / TICKS * 1e9,
-               tested / TICKS * 1e9, plain / tested);
-        sum_plain += plain;
-        sum_tested += tested;
+        const double c = median(plain, ROUNDS), rattle = median(tested, ROUNDS);
+        printf("%-28s %10.1f %14.1f %8.2f\n", samples[s].name, c / TICKS * 1e9,
+               rattle / TICKS * 1e9, c / rattle);
+        sum_plain += c;
+        sum_tested += rattle;
     }
     const double ticks = (double)count * TICKS;
     printf("%-28s %10.1f %14.1f %8.2f\n", "together", sum_plain / ticks * 1e9,

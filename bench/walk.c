@@ -6,8 +6,6 @@
 /* The search under test: plans a table and returns the steps made. */
 uint32_t bench_search(const uint8_t *table, size_t table_len, uint32_t limit);
 
-enum { CORES = 3 };
-
 /* The walk in plain C. Demands and cores are in planning order. */
 
 struct plan {
@@ -16,7 +14,7 @@ struct plan {
     int spent;
 };
 
-static __attribute__((noinline)) struct plan
+static MEASURED struct plan
 walk(const uint32_t *demand, unsigned n, unsigned m, uint32_t hyperperiod, uint32_t limit)
 {
     uint32_t total = 0;
@@ -73,18 +71,21 @@ walk(const uint32_t *demand, unsigned n, unsigned m, uint32_t hyperperiod, uint3
 
 static const struct sample {
     const char *name;
-    uint32_t limit, period, times[TASKS];
+    uint32_t cores, limit, period, times[TASKS];
 } samples[] = {
-    {"load above three cores", UINT32_MAX, 10000,
+    {"load above three cores", 3, UINT32_MAX, 10000,
      {2989, 2912, 2694, 2693, 2565, 2556, 2519, 2347,
       2210, 2194, 2040, 2018, 2003, 1997, 1886, 1879}},
-    {"the same, limit reached", 10000000, 10000,
+    {"the same, limit reached", 3, 10000000, 10000,
      {2989, 2912, 2694, 2693, 2565, 2556, 2519, 2347,
       2210, 2194, 2040, 2018, 2003, 1997, 1886, 1879}},
-    {"many equal tasks", UINT32_MAX, 100,
+    {"many equal tasks", 3, UINT32_MAX, 100,
      {25, 25, 25, 23, 23, 23, 23, 23, 23, 22, 22, 21, 21, 20, 19, 18}},
-    {"load within three cores", UINT32_MAX, 1000,
+    {"load within three cores", 3, UINT32_MAX, 1000,
      {197, 197, 190, 186, 186, 184, 184, 182, 180, 176, 173, 173, 173, 172, 172, 171}},
+    {"load above four cores", 4, UINT32_MAX, 10000,
+     {2750, 2719, 2688, 2657, 2626, 2595, 2564, 2533,
+      2502, 2471, 2440, 2409, 2378, 2347, 2316, 2285}},
 };
 
 int main(void)
@@ -94,32 +95,32 @@ int main(void)
     printf("%-26s %10s %14s %14s %8s\n", "table", "steps", "C steps/s", "Rattle steps/s", "ratio");
     for (size_t s = 0; s < sizeof samples / sizeof samples[0]; s++) {
         const struct sample *sample = &samples[s];
-        uint8_t table[2 + 8 * TASKS] = {TASKS, CORES};
+        uint8_t table[2 + 8 * TASKS] = {TASKS, (uint8_t)sample->cores};
         for (int k = 0; k < TASKS; k++) {
             put_word(table + 2 + 4 * k, sample->period);
             put_word(table + 2 + 4 * (TASKS + k), sample->times[k]);
         }
 
-        /* The best of a few rounds, taken in turn. */
-        double plain = 1e9, tested = 1e9;
+        /* The two take turns. */
+        double plain[ROUNDS], tested[ROUNDS];
         uint32_t steps = 0;
         for (int round = 0; round < ROUNDS; round++) {
             const double start = now();
-            steps = walk(sample->times, TASKS, CORES, sample->period, sample->limit).steps;
+            steps = walk(sample->times, TASKS, sample->cores, sample->period, sample->limit).steps;
             const double middle = now();
             const uint32_t theirs = bench_search(table, sizeof table, sample->limit);
-            const double end = now();
+            tested[round] = now() - middle;
+            plain[round] = middle - start;
             if (theirs != steps) {
                 printf("steps differ: %u and %u\n", steps, theirs);
                 return 1;
             }
-            plain = middle - start < plain ? middle - start : plain;
-            tested = end - middle < tested ? end - middle : tested;
         }
-        printf("%-26s %10u %14.0f %14.0f %8.2f\n", sample->name, steps, steps / plain,
-               steps / tested, plain / tested);
-        sum_plain += plain;
-        sum_tested += tested;
+        const double c = median(plain, ROUNDS), rattle = median(tested, ROUNDS);
+        printf("%-26s %10u %14.0f %14.0f %8.2f\n", sample->name, steps, steps / c, steps / rattle,
+               c / rattle);
+        sum_plain += c;
+        sum_tested += rattle;
         sum_steps += steps;
     }
     printf("%-26s %10.0f %14.0f %14.0f %8.2f\n", "together", sum_steps, sum_steps / sum_plain,
