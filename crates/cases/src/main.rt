@@ -26,7 +26,7 @@ fn run_table() -> bool {
     }
     let n = block.length;
     let reading = stored::read_table(&table[..n]);
-    console::show(tables::table_line(reading))
+    console::show(tables::table_line(reading)).whole
 }
 
 // Reads a table and a limit and prints the plan's line; false where the case is not whole or the output fails.
@@ -42,7 +42,7 @@ fn run_plan() -> bool {
         return false;
     }
     let plan = planner::plan(&table[..n], wire::word(&limit, 0));
-    console::show(plans::plan_line(plan))
+    console::show(plans::plan_line(plan)).whole
 }
 
 // Reads the requests of each tick, and if the core was accepted makes the tick and prints its line; false where the case is not whole
@@ -57,7 +57,7 @@ fn run_ticks(core: Core, accepted: bool, count: u32) -> bool {
         }
         if accepted {
             let ticked = present.tick(blocks::numbers_of(&bytes));
-            if !console::show(cores::tick_line(ticked)) {
+            if !console::show(cores::tick_line(ticked)).whole {
                 return false;
             }
             let next = ticked.core;
@@ -86,7 +86,7 @@ fn run_started(table: &[u8], placement: &[u8]) -> bool {
         return false;
     }
     let started = start::fresh(table, placement, number[0]);
-    if !console::show(cores::core_line(started)) {
+    if !console::show(cores::core_line(started)).whole {
         return false;
     }
     let outcome = started.outcome;
@@ -122,7 +122,7 @@ fn run_record() -> bool {
     }
     let slots = records::slots_in(&record);
     let core = Core { slots: slots };
-    console::show(records::record_line(core.tick(blocks::numbers_of(&requests))))
+    console::show(records::record_line(core.tick(blocks::numbers_of(&requests)))).whole
 }
 
 // Runs a case by its code; false where there is no such code, the case is not whole, or the output fails.

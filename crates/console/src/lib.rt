@@ -1,8 +1,10 @@
 // What the programs share: reading their input and writing a text.
 ghost use mathlib.Core.Path.{_≡_};
 ghost use Prim.Native.Nat.{_≤_};
-ghost use lib.ListN.{drop};
+ghost use lib.ListN.{length, drop};
 ghost use Rattle.io.specs.Counts.{Counts};
+ghost use Rattle.text.specs.Shown.{shown};
+ghost use Rattle.console.specs.Written.{Took};
 use text::Text;
 
 const IN: i32 = 0;
@@ -24,20 +26,62 @@ pub fn read_next(buffer: &mut [u8], n: usize) -> usize
     io::read_full(IN, &mut buffer[..n])
 }
 
-// Writes the first `n` bytes, or all where there are fewer; false where the output takes no more.
-fn write_front(bytes: &[u8], n: usize) -> bool {
-    if bytes.len() < n {
-        return io::write_all(OUT, bytes);
-    }
-    io::write_all(OUT, &bytes[..n])
+// How many bytes of a text the output took, and whether these are all that it shows.
+pub struct Written {
+    pub taken: usize,
+    pub whole: bool,
 }
 
-// Writes what a text shows; false where that failed, which is said on standard error.
-pub fn show(t: Text) -> bool {
-    let bytes = t.bytes;
-    if write_front(&bytes, t.length) {
-        return true;
+// How many bytes a text shows.
+fn shown_length(t: Text) -> usize
+    ensures { λ r. ⌜ r ≡ length (shown t) ⌝ }
+{
+    if t.length < 2048 { t.length } else { 2048 }
+}
+
+// Writes the first `n` bytes with one call and returns how many the output took.
+fn write_once(bytes: &[u8], n: usize) -> usize
+    requires { ⌜ n ≤ length (now bytes) ⌝ }
+    ensures { λ r. ⌜ r ≤ n ⌝ }
+{
+    let front = &bytes[..n];
+    io::count(libc::write(OUT, front), front)
+}
+
+// The same for one byte.
+fn write_byte(b: u8) -> usize
+    ensures { λ r. ⌜ r ≤ 1 ⌝ }
+{
+    let one = [b];
+    io::count(libc::write(OUT, &one), &one)
+}
+
+// Writes the first `n` bytes, byte by byte once a call took fewer, and returns how many the output took.
+fn write_front(bytes: &[u8], n: usize) -> usize
+    requires { ⌜ n ≤ length (now bytes) ⌝ }
+    ensures { λ r. ⌜ r ≤ n ⌝ }
+{
+    let mut done = write_once(bytes, n);
+    while done < n {
+        let put = write_byte(bytes[done]);
+        if put == 0 {
+            return done;
+        }
+        done += put;
     }
-    io::write_all(ERROR, b"standard output failed\n");
-    false
+    done
+}
+
+// Writes what a text shows. That the output did not take all of it is said on standard error.
+pub fn show(t: Text) -> Written
+    ensures took { λ r. ⌜ Took (shown t) r ⌝ }
+{
+    let n = shown_length(t);
+    let bytes = t.bytes;
+    let taken = write_front(&bytes, n);
+    let whole = taken == n;
+    if !whole {
+        io::write_all(ERROR, b"standard output failed\n");
+    }
+    Written { taken, whole }
 }
