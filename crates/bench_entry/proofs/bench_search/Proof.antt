@@ -4,11 +4,8 @@ use borrow.Author.Needs.{needs}
 use Rattle.bench_entry.proofs.bench_search.Statement.{statement}
 use Rattle.bench_entry.proofs.bench_search.Tie as tie
 
-plan-requires : tie.Need-plan-requires
-plan-requires c κs = search needs
-
 returns : tie.Need-returns
 returns c = ap (λ p. p .steps) (c .plan .ensures .0)
 
 pub bench-search-spec : {M : Type 1} → statement M
-bench-search-spec = tie.close (tie.spec plan-requires returns)
+bench-search-spec = tie.close (tie.spec (λ c κs. search needs) returns)

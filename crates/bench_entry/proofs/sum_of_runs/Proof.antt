@@ -10,37 +10,7 @@ Inv-loop ticks requests now₀ sum₀ left₀ now sum left = Summing (now₀ .sl
 abbrev μ-loop : tie.MeasureT-loop
 μ-loop ticks requests now₀ sum₀ left₀ now sum left = left
 
-loop-holds : tie.Need-loop-holds Inv-loop μ-loop
-loop-holds c = search (needs, sum-start)
-
-tick-requires : tie.Need-tick-requires Inv-loop μ-loop
-tick-requires c κs = search needs
-
-plus-requires : tie.Need-plus-requires Inv-loop μ-loop
-plus-requires c κs = search needs
-
-sub-left : tie.Need-sub-left Inv-loop μ-loop
-sub-left c = search needs
-
-loop-less : tie.Need-loop-less Inv-loop μ-loop
-loop-less c = search needs
-
-loop-again : tie.Need-loop-again Inv-loop μ-loop
-loop-again c = search (needs, sum-next)
-
-returns : tie.Need-returns Inv-loop μ-loop
-returns c = search (needs, sum-done)
-
 pub sum-of-runs-spec : {M : Type 1} → statement M
 sum-of-runs-spec =
-    tie.close
-    (tie.spec
-    Inv-loop
-    μ-loop
-    loop-holds
-    tick-requires
-    plus-requires
-    sub-left
-    loop-less
-    loop-again
-    returns)
+    tie.close (tie.spec Inv-loop μ-loop (λ c. search (needs, sum-start)) (λ c κs. search needs) (λ c κs. search needs)
+    (λ c. search needs) (λ c. search needs) (λ c. search (needs, sum-next)) (λ c. search (needs, sum-done)))

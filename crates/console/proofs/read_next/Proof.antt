@@ -6,17 +6,8 @@ use borrow.Author.Needs.{needs}
 use Rattle.console.proofs.read_next.Statement.{statement}
 use Rattle.console.proofs.read_next.Tie as tie
 
-returns : tie.Need-returns
-returns c = search needs
-
-slice-relend-prefix-read-full : tie.Need-slice-relend-prefix-read-full
-slice-relend-prefix-read-full c = search needs
-
 slice-aggregate-read-full : tie.Need-slice-aggregate-read-full
 slice-aggregate-read-full c = sym (length-take-le _ _ (c .before .if1 .left))
-
-read-full-requires : tie.Need-read-full-requires
-read-full-requires c κs = search needs
 
 same-length : tie.Need-same-length
 same-length c = search needs
@@ -26,11 +17,5 @@ returns-2 c = ((search (needs, within), search (needs, counted)), (search (needs
 
 pub read-next-spec : {M : Type 1} → statement M
 read-next-spec =
-    tie.close
-    (tie.spec
-    returns
-    slice-relend-prefix-read-full
-    slice-aggregate-read-full
-    read-full-requires
-    same-length
+    tie.close (tie.spec (λ c. search needs) (λ c. search needs) slice-aggregate-read-full (λ c κs. search needs) same-length
     returns-2)

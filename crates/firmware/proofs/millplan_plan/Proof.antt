@@ -4,24 +4,6 @@ use borrow.Author.Needs.{needs}
 use Rattle.firmware.proofs.millplan_plan.Statement.{statement}
 use Rattle.firmware.proofs.millplan_plan.Tie as tie
 
-read-table-requires : tie.Need-read-table-requires
-read-table-requires c κs = search needs
-
-buffer-test-requires : tie.Need-buffer-test-requires
-buffer-test-requires c κs = search needs
-
-then-requires : tie.Need-then-requires
-then-requires c κs = search needs
-
-enum-known-outcome : tie.Need-enum-known-outcome
-enum-known-outcome c = search needs
-
-code-requires : tie.Need-code-requires
-code-requires c κs = search needs
-
-enum-told : tie.Need-enum-told
-enum-told c = search needs
-
 plan-tasks-requires : tie.Need-plan-tasks-requires
 plan-tasks-requires c κs = c .before .before .before .before .before .read-table .ensures .1 .1 .checked (read-well _ _ (c .before .before .then .ensures) (cc))
 
@@ -31,15 +13,9 @@ write-front-requires c κs =
     let f = c .before .before .before .before .before .before .buffer-test .ensures in
     (call-few _ _ e f (c .before .before .before .before .before .then .ensures) (cc), call-room _ _ e f (c .before .before .before .before .before .then .ensures) (cc))
 
-code-requires-2 : tie.Need-code-requires-2
-code-requires-2 c κs = search needs
-
 returns : tie.Need-returns
 returns c =
     call-refused _ _ _ (c .before .before .before .before .before .before .before .read-table .ensures .0) (c .before .before .before .before .before .buffer-test .ensures) (c .before .before .before .before .then .ensures) (c .before .before .outcome .given .1) (c .code .ensures)
-
-same-length : tie.Need-same-length
-same-length c = search needs
 
 returns-2 : tie.Need-returns-2
 returns-2 c =
@@ -47,17 +23,6 @@ returns-2 c =
 
 pub millplan-plan-spec : {M : Type 1} → statement M
 millplan-plan-spec =
-    tie.close
-    (tie.spec
-    read-table-requires
-    buffer-test-requires
-    then-requires
-    enum-known-outcome
-    code-requires
-    enum-told
-    plan-tasks-requires
-    write-front-requires
-    code-requires-2
-    returns
-    same-length
-    returns-2)
+    tie.close (tie.spec (λ c κs. search needs) (λ c κs. search needs) (λ c κs. search needs) (λ c. search needs)
+    (λ c κs. search needs) (λ c. search needs) plan-tasks-requires write-front-requires (λ c κs. search needs) returns
+    (λ c. search needs) returns-2)

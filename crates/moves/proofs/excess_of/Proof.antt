@@ -5,17 +5,8 @@ use native.Mathlib.Nat.{lt-of-le-of-lt, mul-le-mul}
 use Rattle.moves.proofs.excess_of.Statement.{statement}
 use Rattle.moves.proofs.excess_of.Tie as tie
 
-cast-room : tie.Need-cast-room
-cast-room c = search needs
-
 mul-room : tie.Need-mul-room
 mul-room c = record { fits = lt-of-le-of-lt (mul-le-mul (c .pre .0) (c .pre .1)) (lit< tt) }
 
-returns : tie.Need-returns
-returns c = search needs
-
-returns-2 : tie.Need-returns-2
-returns-2 c = search needs
-
 pub excess-of-spec : {M : Type 1} → statement M
-excess-of-spec = tie.close (tie.spec cast-room mul-room returns returns-2)
+excess-of-spec = tie.close (tie.spec (λ c. search needs) mul-room (λ c. search needs) (λ c. search needs))

@@ -3,8 +3,5 @@ use borrow.Author.Needs.{needs}
 use Rattle.moves.proofs.improves.Statement.{statement}
 use Rattle.moves.proofs.improves.Tie as tie
 
-returns : tie.Need-returns
-returns c = search needs
-
 pub improves-spec : {M : Type 1} → statement M
-improves-spec = tie.close (tie.spec returns)
+improves-spec = tie.close (tie.spec (λ c. search needs))

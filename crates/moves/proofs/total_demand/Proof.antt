@@ -46,15 +46,4 @@ returns c =
 
 pub total-demand-spec : {M : Type 1} → statement M
 total-demand-spec =
-    tie.close
-    (tie.spec
-    Inv-loop
-    μ-loop
-    loop-holds
-    mul-total
-    array-read-total
-    add-total
-    add-i
-    loop-less
-    loop-again
-    returns)
+    tie.close (tie.spec Inv-loop μ-loop loop-holds mul-total array-read-total add-total add-i loop-less loop-again returns)

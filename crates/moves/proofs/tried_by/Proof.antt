@@ -5,9 +5,6 @@ use Rattle.allocation.specs.Walk.{triedBy}
 use Rattle.moves.proofs.tried_by.Statement.{statement}
 use Rattle.moves.proofs.tried_by.Tie as tie
 
-add-result : tie.Need-add-result
-add-result c = search needs
-
 returns : tie.Need-returns
 unfolding triedBy
 returns c = simp (eq-eqb _ _ (c .if1 .taken))
@@ -17,4 +14,4 @@ unfolding triedBy
 returns-2 c = simp (ne-eqb _ _ (c .if1 .left))
 
 pub tried-by-spec : {M : Type 1} → statement M
-tried-by-spec = tie.close (tie.spec add-result returns returns-2)
+tried-by-spec = tie.close (tie.spec (λ c. search needs) returns returns-2)

@@ -22,9 +22,6 @@ cast-pick-byte c = omega arith
 array-read-pick-byte : tie.Need-array-read-pick-byte Inv-loop μ-loop
 array-read-pick-byte c = omega arith
 
-pick-byte-requires : tie.Need-pick-byte-requires Inv-loop μ-loop
-pick-byte-requires c κs = search needs
-
 cast-path : tie.Need-cast-path Inv-loop μ-loop
 cast-path c = omega arith
 
@@ -51,17 +48,5 @@ returns c =
 
 pub with-choice-spec : {M : Type 1} → statement M
 with-choice-spec =
-    tie.close
-    (tie.spec
-    Inv-loop
-    μ-loop
-    loop-holds
-    cast-pick-byte
-    array-read-pick-byte
-    pick-byte-requires
-    cast-path
-    array-write-path
-    add-k
-    loop-less
-    loop-again
-    returns)
+    tie.close (tie.spec Inv-loop μ-loop loop-holds cast-pick-byte array-read-pick-byte (λ c κs. search needs) cast-path
+    array-write-path add-k loop-less loop-again returns)

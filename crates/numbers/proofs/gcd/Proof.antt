@@ -12,9 +12,6 @@ Inv-loop a b x₀ y₀ x y = gcd a b ≡ gcd x y
 abbrev μ-loop : tie.MeasureT-loop
 μ-loop a b x₀ y₀ x y = y
 
-loop-holds : tie.Need-loop-holds Inv-loop μ-loop
-loop-holds c = refl
-
 rem-t : tie.Need-rem-t Inv-loop μ-loop
 rem-t c = pos-of-ne-zero (c .loop-test .taken)
 
@@ -28,4 +25,4 @@ returns : tie.Need-returns Inv-loop μ-loop
 returns c = sym (c .before .loop .inv ∙ ap (gcd _) (c .loop-test .left) ∙ gcd-zero _)
 
 pub gcd-spec : {M : Type 1} → statement M
-gcd-spec = tie.close (tie.spec Inv-loop μ-loop loop-holds rem-t loop-less loop-again returns)
+gcd-spec = tie.close (tie.spec Inv-loop μ-loop (λ c. refl) rem-t loop-less loop-again returns)

@@ -5,18 +5,6 @@ use borrow.Author.Needs.{needs}
 use Rattle.planner.proofs.plan.Statement.{statement}
 use Rattle.planner.proofs.plan.Tie as tie
 
-read-table-requires : tie.Need-read-table-requires
-read-table-requires c κs = search needs
-
-enum-known-outcome : tie.Need-enum-known-outcome
-enum-known-outcome c = search needs
-
-refused-requires : tie.Need-refused-requires
-refused-requires c κs = search needs
-
-enum-told : tie.Need-enum-told
-enum-told c = search needs
-
 plan-tasks-requires : tie.Need-plan-tasks-requires
 plan-tasks-requires c κs = c .before .before .read-table .ensures .1 .1 .checked (cc)
 
@@ -32,12 +20,5 @@ returns-2 c =
 
 pub plan-spec : {M : Type 1} → statement M
 plan-spec =
-    tie.close
-    (tie.spec
-    read-table-requires
-    enum-known-outcome
-    refused-requires
-    enum-told
-    plan-tasks-requires
-    returns
-    returns-2)
+    tie.close (tie.spec (λ c κs. search needs) (λ c. search needs) (λ c κs. search needs) (λ c. search needs)
+    plan-tasks-requires returns returns-2)

@@ -4,9 +4,6 @@ use borrow.Author.Needs.{needs}
 use Rattle.planner.proofs.plan_tasks.Statement.{statement}
 use Rattle.planner.proofs.plan_tasks.Tie as tie
 
-planning-order-requires : tie.Need-planning-order-requires
-planning-order-requires c κs = search needs
-
 in-planning-order-requires : tie.Need-in-planning-order-requires
 in-planning-order-requires c κs = order-listed (c .before .before .pre) (c .before .planning-order .ensures .0)
 
@@ -16,9 +13,6 @@ search-requires c κs = ranges (c .before .before .before .pre) (c .before .befo
 in-table-order-requires : tie.Need-in-table-order-requires
 in-table-order-requires c κs = order-listed (c .before .before .before .before .before .pre) (c .before .before .before .before .planning-order .ensures .0)
 
-verdict-of-requires : tie.Need-verdict-of-requires
-verdict-of-requires c κs = search needs
-
 returns : tie.Need-returns
 returns c =
     plan-is (c .before .before .before .before .before .before .before .pre) (c .before .before .before .before .before .before .planning-order .ensures .0) (c .before .before .before .before .in-planning-order .ensures) _ (c .before .before .before .search .ensures)
@@ -26,11 +20,5 @@ returns c =
 
 pub plan-tasks-spec : {M : Type 1} → statement M
 plan-tasks-spec =
-    tie.close
-    (tie.spec
-    planning-order-requires
-    in-planning-order-requires
-    search-requires
-    in-table-order-requires
-    verdict-of-requires
-    returns)
+    tie.close (tie.spec (λ c κs. search needs) in-planning-order-requires search-requires in-table-order-requires
+    (λ c κs. search needs) returns)

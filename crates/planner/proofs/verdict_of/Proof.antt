@@ -4,14 +4,7 @@ use borrow.Author.Needs.{needs}
 use Rattle.planner.proofs.verdict_of.Statement.{statement}
 use Rattle.planner.proofs.verdict_of.Tie as tie
 
-returns : tie.Need-returns
-returns c = search (needs, verdict-spent)
-
-returns-2 : tie.Need-returns-2
-returns-2 c = search (needs, verdict-all)
-
-returns-3 : tie.Need-returns-3
-returns-3 c = search (needs, verdict-short)
-
 pub verdict-of-spec : {M : Type 1} → statement M
-verdict-of-spec = tie.close (tie.spec returns returns-2 returns-3)
+verdict-of-spec =
+    tie.close (tie.spec (λ c. search (needs, verdict-spent)) (λ c. search (needs, verdict-all))
+    (λ c. search (needs, verdict-short)))

@@ -11,45 +11,8 @@ Inv-loop n choices order placement₀ k₀ placement k = Scattering order n choi
 abbrev μ-loop : tie.MeasureT-loop
 μ-loop n choices order placement₀ k₀ placement k = n - k
 
-loop-holds : tie.Need-loop-holds Inv-loop μ-loop
-loop-holds c = search (needs, scatter-start)
-
-mul-task : tie.Need-mul-task Inv-loop μ-loop
-mul-task c = search needs
-
-array-read-task : tie.Need-array-read-task Inv-loop μ-loop
-array-read-task c = search needs
-
-array-read-with-byte : tie.Need-array-read-with-byte Inv-loop μ-loop
-array-read-with-byte c = search needs
-
-with-byte-requires : tie.Need-with-byte-requires Inv-loop μ-loop
-with-byte-requires c κs = search needs
-
-add-k : tie.Need-add-k Inv-loop μ-loop
-add-k c = search needs
-
-loop-less : tie.Need-loop-less Inv-loop μ-loop
-loop-less c = search needs
-
-loop-again : tie.Need-loop-again Inv-loop μ-loop
-loop-again c = search (needs, scatter-next)
-
-returns : tie.Need-returns Inv-loop μ-loop
-returns c = search (needs, scatter-done)
-
 pub in-table-order-spec : {M : Type 1} → statement M
 in-table-order-spec =
-    tie.close
-    (tie.spec
-    Inv-loop
-    μ-loop
-    loop-holds
-    mul-task
-    array-read-task
-    array-read-with-byte
-    with-byte-requires
-    add-k
-    loop-less
-    loop-again
-    returns)
+    tie.close (tie.spec Inv-loop μ-loop (λ c. search (needs, scatter-start)) (λ c. search needs) (λ c. search needs)
+    (λ c. search needs) (λ c κs. search needs) (λ c. search needs) (λ c. search needs) (λ c. search (needs, scatter-next))
+    (λ c. search (needs, scatter-done)))

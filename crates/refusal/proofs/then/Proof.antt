@@ -4,12 +4,6 @@ use Rattle.refusal.specs.Tests.{_then_}
 use Rattle.refusal.proofs.then.Statement.{statement}
 use Rattle.refusal.proofs.then.Tie as tie
 
-enum-told : tie.Need-enum-told
-enum-told c = search needs
-
-enum-known-first : tie.Need-enum-known-first
-enum-known-first c = search needs
-
 returns : tie.Need-returns
 unfolding _then_
 returns c = cc
@@ -19,4 +13,4 @@ unfolding _then_
 returns-2 c = cc
 
 pub then-spec : {M : Type 1} → statement M
-then-spec = tie.close (tie.spec enum-told enum-known-first returns returns-2)
+then-spec = tie.close (tie.spec (λ c. search needs) (λ c. search needs) returns returns-2)

@@ -15,42 +15,8 @@ abbrev μ-loop : tie.MeasureT-loop
 loop-holds : tie.Need-loop-holds Inv-loop μ-loop
 loop-holds c = keep-start _ _ (search needs)
 
-mul-s : tie.Need-mul-s Inv-loop μ-loop
-mul-s c = search needs
-
-array-copy-out-s : tie.Need-array-copy-out-s Inv-loop μ-loop
-array-copy-out-s c = search needs
-
-add-late-so-far : tie.Need-add-late-so-far Inv-loop μ-loop
-add-late-so-far c = search needs
-
-late-so-far-requires : tie.Need-late-so-far-requires Inv-loop μ-loop
-late-so-far-requires c κs = search needs
-
-add-i : tie.Need-add-i Inv-loop μ-loop
-add-i c = search needs
-
-loop-less : tie.Need-loop-less Inv-loop μ-loop
-loop-less c = search needs
-
-loop-again : tie.Need-loop-again Inv-loop μ-loop
-loop-again c = search (needs, keep-next)
-
-returns : tie.Need-returns Inv-loop μ-loop
-returns c = search (needs, keep-done)
-
 pub first-late-spec : {M : Type 1} → statement M
 first-late-spec =
-    tie.close
-    (tie.spec
-    Inv-loop
-    μ-loop
-    loop-holds
-    mul-s
-    array-copy-out-s
-    add-late-so-far
-    late-so-far-requires
-    add-i
-    loop-less
-    loop-again
-    returns)
+    tie.close (tie.spec Inv-loop μ-loop loop-holds (λ c. search needs) (λ c. search needs) (λ c. search needs)
+    (λ c κs. search needs) (λ c. search needs) (λ c. search needs) (λ c. search (needs, keep-next))
+    (λ c. search (needs, keep-done)))

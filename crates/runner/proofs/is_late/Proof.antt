@@ -3,8 +3,5 @@ use borrow.Author.Needs.{needs}
 use Rattle.runner.proofs.is_late.Statement.{statement}
 use Rattle.runner.proofs.is_late.Tie as tie
 
-returns : tie.Need-returns
-returns c = search needs
-
 pub is-late-spec : {M : Type 1} → statement M
-is-late-spec = tie.close (tie.spec returns)
+is-late-spec = tie.close (tie.spec (λ c. search needs))

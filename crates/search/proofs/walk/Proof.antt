@@ -67,44 +67,8 @@ tasks-holds c =
     let g = c .pre .ranges in
     (walk-start (job (a .t1) (a .n) (a .m) (a .h) (a .limit)) (ranges-fixed g (search needs)) (g .some) _ (c .pre .total-is), refl)
 
-choices-holds : tie.Need-choices-holds Inv-choices μ-choices Inv-tasks μ-tasks
-choices-holds c = search needs
-
-cast-load : tie.Need-cast-load Inv-choices μ-choices Inv-tasks μ-tasks
-cast-load c = search needs
-
-add-load : tie.Need-add-load Inv-choices μ-choices Inv-tasks μ-tasks
-add-load c = search needs
-
-mul-load : tie.Need-mul-load Inv-choices μ-choices Inv-tasks μ-tasks
-mul-load c = search needs
-
-array-read-load : tie.Need-array-read-load Inv-choices μ-choices Inv-tasks μ-tasks
-array-read-load c = search needs
-
-cast-load-2 : tie.Need-cast-load-2 Inv-choices μ-choices Inv-tasks μ-tasks
-cast-load-2 c = search needs
-
-mul-load-2 : tie.Need-mul-load-2 Inv-choices μ-choices Inv-tasks μ-tasks
-mul-load-2 c = search needs
-
-array-read-load-2 : tie.Need-array-read-load-2 Inv-choices μ-choices Inv-tasks μ-tasks
-array-read-load-2 c = search needs
-
 add-load-2 : tie.Need-add-load-2 Inv-choices μ-choices Inv-tasks μ-tasks
 add-load-2 c = omega (arith, load-small (c .before .choices .inv .0) (c .before .choices .next + 1))
-
-array-read-enters-core : tie.Need-array-read-enters-core Inv-choices μ-choices Inv-tasks μ-tasks
-array-read-enters-core c = search needs
-
-enters-core-requires : tie.Need-enters-core-requires Inv-choices μ-choices Inv-tasks μ-tasks
-enters-core-requires c κs = search needs
-
-add-next : tie.Need-add-next Inv-choices μ-choices Inv-tasks μ-tasks
-add-next c = search needs
-
-choices-less : tie.Need-choices-less Inv-choices μ-choices Inv-tasks μ-tasks
-choices-less c = search needs
 
 choices-again : tie.Need-choices-again Inv-choices μ-choices Inv-tasks μ-tasks
 choices-again c =
@@ -112,66 +76,21 @@ choices-again c =
     let e = c .before .before .before .before .before .pre .excess-is in
     (skips (core-looked (l .inv .0) (c .before .before .if1 .taken) e (c .before .enters-core .ensures)) (c .if2 .taken), l .inv .1, l .inv .2, l .inv .3)
 
-add-c : tie.Need-add-c Inv-choices μ-choices Inv-tasks μ-tasks
-add-c c = search needs
-
-array-read-improves : tie.Need-array-read-improves Inv-choices μ-choices Inv-tasks μ-tasks
-array-read-improves c = search needs
-
-cast-improves : tie.Need-cast-improves Inv-choices μ-choices Inv-tasks μ-tasks
-cast-improves c = search needs
-
-mul-improves : tie.Need-mul-improves Inv-choices μ-choices Inv-tasks μ-tasks
-mul-improves c = search needs
-
-array-read-improves-2 : tie.Need-array-read-improves-2 Inv-choices μ-choices Inv-tasks μ-tasks
-array-read-improves-2 c = search needs
-
 add-improves : tie.Need-add-improves Inv-choices μ-choices Inv-tasks μ-tasks
 add-improves c = omega (arith, load-small (c .before .before .choices .inv .0) 0)
 
-improves-requires : tie.Need-improves-requires Inv-choices μ-choices Inv-tasks μ-tasks
-improves-requires c κs = search needs
-
-sub-depth : tie.Need-sub-depth Inv-choices μ-choices Inv-tasks μ-tasks
-sub-depth c = search needs
-
-cast-last : tie.Need-cast-last Inv-choices μ-choices Inv-tasks μ-tasks
-cast-last c = search needs
-
-array-read-last : tie.Need-array-read-last Inv-choices μ-choices Inv-tasks μ-tasks
-array-read-last c = search needs
-
 cast-last-2 : tie.Need-cast-last-2 Inv-choices μ-choices Inv-tasks μ-tasks
 cast-last-2 c = omega (arith, last-small (c .before .before .before .choices .inv .0) (c .if5 .left) refl)
-
-cast-with-less : tie.Need-cast-with-less Inv-choices μ-choices Inv-tasks μ-tasks
-cast-with-less c = search needs
-
-mul-with-less : tie.Need-mul-with-less Inv-choices μ-choices Inv-tasks μ-tasks
-mul-with-less c = search needs
-
-array-read-with-less : tie.Need-array-read-with-less Inv-choices μ-choices Inv-tasks μ-tasks
-array-read-with-less c = search needs
 
 with-less-requires : tie.Need-with-less-requires Inv-choices μ-choices Inv-tasks μ-tasks
 with-less-requires c κs =
     let s = c .before .before .before .choices .inv .0 in
     (last-small s (c .if5 .left) refl, last-enough s (c .if5 .left) refl)
 
-tried-by-requires : tie.Need-tried-by-requires Inv-choices μ-choices Inv-tasks μ-tasks
-tried-by-requires c κs = search needs
-
-tasks-less : tie.Need-tasks-less Inv-choices μ-choices Inv-tasks μ-tasks
-tasks-less c = search needs
-
 tasks-again : tie.Need-tasks-again Inv-choices μ-choices Inv-tasks μ-tasks
 tasks-again c =
     let g = c .before .before .before in
     (walk-back (none-left g) (c .before .before .if5 .left) refl (omega arith) (c .before .with-less .ensures) (c .tried-by .ensures), g .before .before .choices .inv .3)
-
-add-steps : tie.Need-add-steps Inv-choices μ-choices Inv-tasks μ-tasks
-add-steps c = search needs
 
 cast-with-choice : tie.Need-cast-with-choice Inv-choices μ-choices Inv-tasks μ-tasks
 cast-with-choice c =
@@ -181,60 +100,21 @@ cast-with-choice c =
 with-choice-requires : tie.Need-with-choice-requires Inv-choices μ-choices Inv-tasks μ-tasks
 with-choice-requires c κs = depth-small (entering (c .before .before) .state)
 
-add-if7 : tie.Need-add-if7 Inv-choices μ-choices Inv-tasks μ-tasks
-add-if7 c = search needs
-
-cast-with-more : tie.Need-cast-with-more Inv-choices μ-choices Inv-tasks μ-tasks
-cast-with-more c = search needs
-
-mul-with-more : tie.Need-mul-with-more Inv-choices μ-choices Inv-tasks μ-tasks
-mul-with-more c = search needs
-
-array-read-with-more : tie.Need-array-read-with-more Inv-choices μ-choices Inv-tasks μ-tasks
-array-read-with-more c = search needs
-
 with-more-requires : tie.Need-with-more-requires Inv-choices μ-choices Inv-tasks μ-tasks
 with-more-requires c κs =
     let v = entering (c .before .before .before .before) in
     (choice-small (v .state) (v .within) (v .choice-is), λ k. omega (arith, load-small (v .state) k))
-
-add-depth : tie.Need-add-depth Inv-choices μ-choices Inv-tasks μ-tasks
-add-depth c = search needs
-
-tasks-less-2 : tie.Need-tasks-less-2 Inv-choices μ-choices Inv-tasks μ-tasks
-tasks-less-2 c = search needs
 
 tasks-again-2 : tie.Need-tasks-again-2 Inv-choices μ-choices Inv-tasks μ-tasks
 tasks-again-2 c =
     let g = c .before .before .before .before .before in
     (descends (entering g) (c .before .before .before .before .if6 .left) (c .before .if7 .taken) (c .before .before .with-choice .ensures) (c .with-more .ensures), g .before .choices .inv .3)
 
-array-read-rejected : tie.Need-array-read-rejected Inv-choices μ-choices Inv-tasks μ-tasks
-array-read-rejected c = search needs
-
-cast-pick : tie.Need-cast-pick Inv-choices μ-choices Inv-tasks μ-tasks
-cast-pick c = search needs
-
-mul-pick : tie.Need-mul-pick Inv-choices μ-choices Inv-tasks μ-tasks
-mul-pick c = search needs
-
-array-read-pick : tie.Need-array-read-pick Inv-choices μ-choices Inv-tasks μ-tasks
-array-read-pick c = search needs
-
-pick-requires : tie.Need-pick-requires Inv-choices μ-choices Inv-tasks μ-tasks
-pick-requires c κs = search needs
-
 add-rejected : tie.Need-add-rejected Inv-choices μ-choices Inv-tasks μ-tasks
 add-rejected c =
     let g = c .before .before .before .before .before in
     let l = g .before .choices in
     omega (arith, load-small (l .inv .0) 0, c .pick .ensures, cond-le (eqb (g .if1 .c) 0) (getD (g .before .before .before .args .t1) (l .depth) 0) _ (le-refl _))
-
-add-next-2 : tie.Need-add-next-2 Inv-choices μ-choices Inv-tasks μ-tasks
-add-next-2 c = search needs
-
-choices-less-2 : tie.Need-choices-less-2 Inv-choices μ-choices Inv-tasks μ-tasks
-choices-less-2 c = search needs
 
 choices-again-2 : tie.Need-choices-again-2 Inv-choices μ-choices Inv-tasks μ-tasks
 choices-again-2 c =
@@ -250,65 +130,13 @@ returns-2 c = stops (entering (c .before)) (c .if6 .taken)
 
 pub walk-spec : {M : Type 1} → statement M
 walk-spec =
-    tie.close
-    (tie.spec
-    Inv-choices
-    μ-choices
-    Inv-tasks
-    μ-tasks
-    add-bound
-    tasks-holds
-    choices-holds
-    cast-load
-    add-load
-    mul-load
-    array-read-load
-    cast-load-2
-    mul-load-2
-    array-read-load-2
-    add-load-2
-    array-read-enters-core
-    enters-core-requires
-    add-next
-    choices-less
-    choices-again
-    add-c
-    array-read-improves
-    cast-improves
-    mul-improves
-    array-read-improves-2
-    add-improves
-    improves-requires
-    sub-depth
-    cast-last
-    array-read-last
-    cast-last-2
-    cast-with-less
-    mul-with-less
-    array-read-with-less
-    with-less-requires
-    tried-by-requires
-    tasks-less
-    tasks-again
-    add-steps
-    cast-with-choice
-    with-choice-requires
-    add-if7
-    cast-with-more
-    mul-with-more
-    array-read-with-more
-    with-more-requires
-    add-depth
-    tasks-less-2
-    tasks-again-2
-    array-read-rejected
-    cast-pick
-    mul-pick
-    array-read-pick
-    pick-requires
-    add-rejected
-    add-next-2
-    choices-less-2
-    choices-again-2
-    returns
-    returns-2)
+    tie.close (tie.spec Inv-choices μ-choices Inv-tasks μ-tasks add-bound tasks-holds (λ c. search needs) (λ c. search needs)
+    (λ c. search needs) (λ c. search needs) (λ c. search needs) (λ c. search needs) (λ c. search needs) (λ c. search needs)
+    add-load-2 (λ c. search needs) (λ c κs. search needs) (λ c. search needs) (λ c. search needs) choices-again
+    (λ c. search needs) (λ c. search needs) (λ c. search needs) (λ c. search needs) (λ c. search needs) add-improves
+    (λ c κs. search needs) (λ c. search needs) (λ c. search needs) (λ c. search needs) cast-last-2 (λ c. search needs)
+    (λ c. search needs) (λ c. search needs) with-less-requires (λ c κs. search needs) (λ c. search needs) tasks-again
+    (λ c. search needs) cast-with-choice with-choice-requires (λ c. search needs) (λ c. search needs) (λ c. search needs)
+    (λ c. search needs) with-more-requires (λ c. search needs) (λ c. search needs) tasks-again-2 (λ c. search needs)
+    (λ c. search needs) (λ c. search needs) (λ c. search needs) (λ c κs. search needs) add-rejected (λ c. search needs)
+    (λ c. search needs) choices-again-2 returns returns-2)

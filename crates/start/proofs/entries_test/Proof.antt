@@ -5,14 +5,8 @@ use borrow.Author.Needs.{needs}
 use Rattle.start.proofs.entries_test.Statement.{statement}
 use Rattle.start.proofs.entries_test.Tie as tie
 
-first-above-requires : tie.Need-first-above-requires
-first-above-requires c κs = search needs
-
-refuse-if-requires : tie.Need-refuse-if-requires
-refuse-if-requires c κs = search needs
-
 returns : tie.Need-returns
 returns c = refuse-at-by Placement (c .refuse-if .ensures) (c .before .first-above .ensures)
 
 pub entries-test-spec : {M : Type 1} → statement M
-entries-test-spec = tie.close (tie.spec first-above-requires refuse-if-requires returns)
+entries-test-spec = tie.close (tie.spec (λ c κs. search needs) (λ c κs. search needs) returns)

@@ -4,18 +4,6 @@ use borrow.Author.Needs.{needs}
 use Rattle.start.proofs.fresh.Statement.{statement}
 use Rattle.start.proofs.fresh.Tie as tie
 
-read-table-requires : tie.Need-read-table-requires
-read-table-requires c κs = search needs
-
-enum-known-outcome : tie.Need-enum-known-outcome
-enum-known-outcome c = search needs
-
-refused-requires : tie.Need-refused-requires
-refused-requires c κs = search needs
-
-enum-told : tie.Need-enum-told
-enum-told c = search needs
-
 start-requires : tie.Need-start-requires
 start-requires c κs = c .before .before .before .read-table .ensures .1 .1 .checked (cc)
 
@@ -31,12 +19,5 @@ returns-2 c =
 
 pub fresh-spec : {M : Type 1} → statement M
 fresh-spec =
-    tie.close
-    (tie.spec
-    read-table-requires
-    enum-known-outcome
-    refused-requires
-    enum-told
-    start-requires
-    returns
-    returns-2)
+    tie.close (tie.spec (λ c κs. search needs) (λ c. search needs) (λ c κs. search needs) (λ c. search needs) start-requires
+    returns returns-2)

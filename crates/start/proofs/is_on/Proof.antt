@@ -3,11 +3,8 @@ use borrow.Author.Needs.{needs}
 use Rattle.start.proofs.is_on.Statement.{statement}
 use Rattle.start.proofs.is_on.Tie as tie
 
-byte-requires : tie.Need-byte-requires
-byte-requires c κs = search needs
-
 returns : tie.Need-returns
 returns c = cc
 
 pub is-on-spec : {M : Type 1} → statement M
-is-on-spec = tie.close (tie.spec byte-requires returns)
+is-on-spec = tie.close (tie.spec (λ c κs. search needs) returns)

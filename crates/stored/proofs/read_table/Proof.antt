@@ -4,12 +4,6 @@ use borrow.Author.Needs.{needs}
 use Rattle.stored.proofs.read_table.Statement.{statement}
 use Rattle.stored.proofs.read_table.Tie as tie
 
-decode-requires : tie.Need-decode-requires
-decode-requires c κs = search needs
-
-shape-tests-requires : tie.Need-shape-tests-requires
-shape-tests-requires c κs = search needs
-
 check-after-requires : tie.Need-check-after-requires
 check-after-requires c κs = shape-says _ (c .before .decode .ensures) (c .shape-tests .ensures)
 
@@ -19,5 +13,4 @@ returns c =
     (e, (read-decides _ e, read-reads _ e))
 
 pub read-table-spec : {M : Type 1} → statement M
-read-table-spec =
-    tie.close (tie.spec decode-requires shape-tests-requires check-after-requires returns)
+read-table-spec = tie.close (tie.spec (λ c κs. search needs) (λ c κs. search needs) check-after-requires returns)

@@ -14,50 +14,15 @@ Inv-loop s at n count entries₀ k₀ entries k = Filled 0 count (wordAt s at) e
 abbrev μ-loop : tie.MeasureT-loop
 μ-loop s at n count entries₀ k₀ entries k = count - k
 
-at-most-sixteen-requires : tie.Need-at-most-sixteen-requires Inv-loop μ-loop
-at-most-sixteen-requires c κs = search needs
-
 loop-holds : tie.Need-loop-holds Inv-loop μ-loop
 loop-holds c = fill-start 0 _ _ (omega (arith, c .at-most-sixteen .ensures))
-
-mul-word : tie.Need-mul-word Inv-loop μ-loop
-mul-word c = search needs
-
-add-word : tie.Need-add-word Inv-loop μ-loop
-add-word c = search needs
-
-word-requires : tie.Need-word-requires Inv-loop μ-loop
-word-requires c κs = search needs
-
-with-number-requires : tie.Need-with-number-requires Inv-loop μ-loop
-with-number-requires c κs = search needs
-
-add-k : tie.Need-add-k Inv-loop μ-loop
-add-k c = search needs
-
-loop-less : tie.Need-loop-less Inv-loop μ-loop
-loop-less c = search needs
 
 loop-again : tie.Need-loop-again Inv-loop μ-loop
 unfolding wordAt
 loop-again c = search (needs, fill-with)
 
-returns : tie.Need-returns Inv-loop μ-loop
-returns c = search (needs, fill-most)
-
 pub words-spec : {M : Type 1} → statement M
 words-spec =
-    tie.close
-    (tie.spec
-    Inv-loop
-    μ-loop
-    at-most-sixteen-requires
-    loop-holds
-    mul-word
-    add-word
-    word-requires
-    with-number-requires
-    add-k
-    loop-less
-    loop-again
-    returns)
+    tie.close (tie.spec Inv-loop μ-loop (λ c κs. search needs) loop-holds (λ c. search needs) (λ c. search needs)
+    (λ c κs. search needs) (λ c κs. search needs) (λ c. search needs) (λ c. search needs) loop-again
+    (λ c. search (needs, fill-most)))

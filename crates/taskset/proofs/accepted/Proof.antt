@@ -5,9 +5,6 @@ use borrow.Author.Needs.{needs}
 use Rattle.taskset.proofs.accepted.Statement.{statement}
 use Rattle.taskset.proofs.accepted.Tie as tie
 
-common-multiple-requires : tie.Need-common-multiple-requires
-common-multiple-requires c κs = search needs
-
 demands-requires : tie.Need-demands-requires
 demands-requires c κs = (search needs, multiple-value (c .before .pre) _ (c .common-multiple .ensures))
 
@@ -16,4 +13,4 @@ unfolding acceptedReading taskSetOf
 returns c = cc (multiple-value (c .before .before .pre) _ (c .before .common-multiple .ensures))
 
 pub accepted-spec : {M : Type 1} → statement M
-accepted-spec = tie.close (tie.spec common-multiple-requires demands-requires returns)
+accepted-spec = tie.close (tie.spec (λ c κs. search needs) demands-requires returns)

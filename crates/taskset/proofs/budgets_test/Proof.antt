@@ -5,14 +5,8 @@ use borrow.Author.Needs.{needs}
 use Rattle.taskset.proofs.budgets_test.Statement.{statement}
 use Rattle.taskset.proofs.budgets_test.Tie as tie
 
-first-bad-budget-requires : tie.Need-first-bad-budget-requires
-first-bad-budget-requires c κs = search needs
-
-refuse-if-requires : tie.Need-refuse-if-requires
-refuse-if-requires c κs = search needs
-
 returns : tie.Need-returns
 returns c = refuse-at-by Budget (c .refuse-if .ensures) (c .before .first-bad-budget .ensures)
 
 pub budgets-test-spec : {M : Type 1} → statement M
-budgets-test-spec = tie.close (tie.spec first-bad-budget-requires refuse-if-requires returns)
+budgets-test-spec = tie.close (tie.spec (λ c κs. search needs) (λ c κs. search needs) returns)

@@ -4,14 +4,8 @@ use borrow.Author.Needs.{needs}
 use Rattle.taskset.proofs.check.Statement.{statement}
 use Rattle.taskset.proofs.check.Tie as tie
 
-size-tests-requires : tie.Need-size-tests-requires
-size-tests-requires c κs = search needs
-
-check-after-requires : tie.Need-check-after-requires
-check-after-requires c κs = search (needs, sizes-say)
-
 returns : tie.Need-returns
 returns c = let e = check-answer _ (c .before .size-tests .ensures) (c .check-after .ensures) in (e, (check-decides _ e, check-reads _ e))
 
 pub check-spec : {M : Type 1} → statement M
-check-spec = tie.close (tie.spec size-tests-requires check-after-requires returns)
+check-spec = tie.close (tie.spec (λ c κs. search needs) (λ c κs. search (needs, sizes-say)) returns)

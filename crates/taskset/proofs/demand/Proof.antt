@@ -5,18 +5,6 @@ use borrow.Author.Needs.{needs}
 use Rattle.taskset.proofs.demand.Statement.{statement}
 use Rattle.taskset.proofs.demand.Tie as tie
 
-mul-result : tie.Need-mul-result
-mul-result c = search needs
-
-element-copy-out-result : tie.Need-element-copy-out-result
-element-copy-out-result c = search needs
-
-mul-jobs : tie.Need-mul-jobs
-mul-jobs c = search needs
-
-element-copy-out-jobs : tie.Need-element-copy-out-jobs
-element-copy-out-jobs c = search needs
-
 jobs-requires : tie.Need-jobs-requires
 jobs-requires c κs = let p = c .before .before .pre in (p .0 .periods _ (p .2) .0, rw (p .1) (p .0 .multiple))
 
@@ -28,12 +16,5 @@ returns c = let p = c .before .before .before .pre in demand-by (p .0) (p .2) (p
 
 pub demand-spec : {M : Type 1} → statement M
 demand-spec =
-    tie.close
-    (tie.spec
-    mul-result
-    element-copy-out-result
-    mul-jobs
-    element-copy-out-jobs
-    jobs-requires
-    mul-result-2
-    returns)
+    tie.close (tie.spec (λ c. search needs) (λ c. search needs) (λ c. search needs) (λ c. search needs) jobs-requires
+    mul-result-2 returns)

@@ -7,15 +7,9 @@ use borrow.Author.Needs.{needs}
 use Rattle.taskset.proofs.hyperperiod_test.Statement.{statement}
 use Rattle.taskset.proofs.hyperperiod_test.Tie as tie
 
-common-multiple-requires : tie.Need-common-multiple-requires
-common-multiple-requires c κs = search needs
-
-refuse-if-requires : tie.Need-refuse-if-requires
-refuse-if-requires c κs = search needs
-
 returns : tie.Need-returns
 unfolding multipleOf
 returns c = refuse-at-by Hyperperiod (c .refuse-if .ensures) (ap (λ m. m .exceeded) (c .before .common-multiple .ensures))
 
 pub hyperperiod-test-spec : {M : Type 1} → statement M
-hyperperiod-test-spec = tie.close (tie.spec common-multiple-requires refuse-if-requires returns)
+hyperperiod-test-spec = tie.close (tie.spec (λ c κs. search needs) (λ c κs. search needs) returns)

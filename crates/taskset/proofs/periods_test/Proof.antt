@@ -5,14 +5,8 @@ use borrow.Author.Needs.{needs}
 use Rattle.taskset.proofs.periods_test.Statement.{statement}
 use Rattle.taskset.proofs.periods_test.Tie as tie
 
-first-bad-period-requires : tie.Need-first-bad-period-requires
-first-bad-period-requires c κs = search needs
-
-refuse-if-requires : tie.Need-refuse-if-requires
-refuse-if-requires c κs = search needs
-
 returns : tie.Need-returns
 returns c = refuse-at-by Period (c .refuse-if .ensures) (c .before .first-bad-period .ensures)
 
 pub periods-test-spec : {M : Type 1} → statement M
-periods-test-spec = tie.close (tie.spec first-bad-period-requires refuse-if-requires returns)
+periods-test-spec = tie.close (tie.spec (λ c κs. search needs) (λ c κs. search needs) returns)

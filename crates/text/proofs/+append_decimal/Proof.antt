@@ -29,35 +29,8 @@ claims t = (
   append-decimal.Post,
 )
 
-digit-requires : (t : ℕ) → lts.Need-digit-requires (claims t) (given t) append-decimal.Post
-digit-requires t c κs = search needs
-
-append-byte-requires : (t : ℕ) → lts.Need-append-byte-requires (claims t) (given t) append-decimal.Post
-append-byte-requires t c κs = search needs
-
-returns : (t : ℕ) → lts.Need-returns (claims t) (given t) append-decimal.Post
-returns t c = search (needs, number-one)
-
-append-decimal-requires : (t : ℕ) → lts.Need-append-decimal-requires (claims t) (given t) append-decimal.Post
-append-decimal-requires t c κs = search needs
-
-digit-requires-2 : (t : ℕ) → lts.Need-digit-requires-2 (claims t) (given t) append-decimal.Post
-digit-requires-2 t c κs = search needs
-
-append-byte-requires-2 : (t : ℕ) → lts.Need-append-byte-requires-2 (claims t) (given t) append-decimal.Post
-append-byte-requires-2 t c κs = search needs
-
-returns-2 : (t : ℕ) → lts.Need-returns-2 (claims t) (given t) append-decimal.Post
-returns-2 t c = search (needs, number-more)
-
 pub +append-decimal-spec : {M : Type 1} → statement M
 +append-decimal-spec =
-    close μ
-    (λ t. lts.spec (claims t) (given t) append-decimal.Post
-    (digit-requires t)
-    (append-byte-requires t)
-    (returns t)
-    (append-decimal-requires t)
-    (digit-requires-2 t)
-    (append-byte-requires-2 t)
-    (returns-2 t))
+    close μ (λ t. lts.spec (claims t) (given t) append-decimal.Post (λ c κs. search needs) (λ c κs. search needs)
+    (λ c. search (needs, number-one)) (λ c κs. search needs) (λ c κs. search needs) (λ c κs. search needs)
+    (λ c. search (needs, number-more)))

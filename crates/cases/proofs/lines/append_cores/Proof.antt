@@ -12,41 +12,8 @@ Inv-loop cores longer₀ k₀ longer k = Joined field 21 longer₀ cores longer 
 abbrev μ-loop : tie.MeasureT-loop
 μ-loop cores longer₀ k₀ longer k = 16 - k
 
-loop-holds : tie.Need-loop-holds Inv-loop μ-loop
-loop-holds c = search (needs, join-start)
-
-array-read-append-field : tie.Need-array-read-append-field Inv-loop μ-loop
-array-read-append-field c = search needs
-
-cast-append-field : tie.Need-cast-append-field Inv-loop μ-loop
-cast-append-field c = search needs
-
-append-field-requires : tie.Need-append-field-requires Inv-loop μ-loop
-append-field-requires c κs = search needs
-
-add-k : tie.Need-add-k Inv-loop μ-loop
-add-k c = search needs
-
-loop-less : tie.Need-loop-less Inv-loop μ-loop
-loop-less c = search needs
-
-loop-again : tie.Need-loop-again Inv-loop μ-loop
-loop-again c = search (needs, join-next)
-
-returns : tie.Need-returns Inv-loop μ-loop
-returns c = search (needs, join-done)
-
 pub append-cores-spec : {M : Type 1} → statement M
 append-cores-spec =
-    tie.close
-    (tie.spec
-    Inv-loop
-    μ-loop
-    loop-holds
-    array-read-append-field
-    cast-append-field
-    append-field-requires
-    add-k
-    loop-less
-    loop-again
-    returns)
+    tie.close (tie.spec Inv-loop μ-loop (λ c. search (needs, join-start)) (λ c. search needs) (λ c. search needs)
+    (λ c κs. search needs) (λ c. search needs) (λ c. search needs) (λ c. search (needs, join-next))
+    (λ c. search (needs, join-done)))

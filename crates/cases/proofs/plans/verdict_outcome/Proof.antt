@@ -4,18 +4,6 @@ use borrow.Author.Needs.{needs}
 use Rattle.cases.proofs.plans.verdict_outcome.Statement.{statement}
 use Rattle.cases.proofs.plans.verdict_outcome.Tie as tie
 
-enum-told : tie.Need-enum-told
-enum-told c = search needs
-
-enum-told-2 : tie.Need-enum-told-2
-enum-told-2 c = search needs
-
-enum-told-3 : tie.Need-enum-told-3
-enum-told-3 c = search needs
-
-enum-known-verdict : tie.Need-enum-known-verdict
-enum-known-verdict c = search needs
-
 returns : tie.Need-returns
 unfolding verdictOutcome
 returns c = cc
@@ -34,13 +22,5 @@ returns-4 c = cc
 
 pub verdict-outcome-spec : {M : Type 1} → statement M
 verdict-outcome-spec =
-    tie.close
-    (tie.spec
-    enum-told
-    enum-told-2
-    enum-told-3
-    enum-known-verdict
-    returns
-    returns-2
-    returns-3
-    returns-4)
+    tie.close (tie.spec (λ c. search needs) (λ c. search needs) (λ c. search needs) (λ c. search needs) returns returns-2
+    returns-3 returns-4)

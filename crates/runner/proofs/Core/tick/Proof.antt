@@ -7,23 +7,8 @@ use Rattle.runner.proofs.RecordLaws.{record-refused, record-accepted}
 use Rattle.runner.proofs.Core.tick.Statement.{statement}
 use Rattle.runner.proofs.Core.tick.Tie as tie
 
-first-wrong-requires : tie.Need-first-wrong-requires
-first-wrong-requires c κs = search needs
-
 returns : tie.Need-returns
 returns c = (search (needs, tick-refused), (search (needs, record-refused), (search (needs, plain-not), search (needs, refused-plain))))
-
-first-late-requires : tie.Need-first-late-requires
-first-late-requires c κs = search needs
-
-release-all-requires : tie.Need-release-all-requires
-release-all-requires c κs = search needs
-
-choose-requires : tie.Need-choose-requires
-choose-requires c κs = search needs
-
-advance-all-requires : tie.Need-advance-all-requires
-advance-all-requires c κs = search needs
 
 returns-2 : tie.Need-returns-2
 returns-2 c =
@@ -32,12 +17,5 @@ returns-2 c =
 
 pub tick-spec : {M : Type 1} → statement M
 tick-spec =
-    tie.close
-    (tie.spec
-    first-wrong-requires
-    returns
-    first-late-requires
-    release-all-requires
-    choose-requires
-    advance-all-requires
-    returns-2)
+    tie.close (tie.spec (λ c κs. search needs) returns (λ c κs. search needs) (λ c κs. search needs) (λ c κs. search needs)
+    (λ c κs. search needs) returns-2)
