@@ -1,56 +1,32 @@
--- Laws of lists of slots: what holds of all of them, sums over them, and a change of each.
-use Prim.Native.Nat.{ℕ, zero, suc, _+_, _-_, _≤_, _<_, zero-le}
-use mathlib.Core.Path.{_≡_, refl, sym, ap, ap₂, _∙_}
+-- Laws of lists of slots: a change of each of them, and sums over them.
+use Prim.Native.Nat.{ℕ, zero, suc, _+_, _-_, _≤_, zero-le}
+use mathlib.Core.Path.{_≡_, refl, sym, ap, _∙_}
 use mathlib.Core.List.{List, [], _∷_}
 use native.Mathlib.Omega.{arith}
-use native.Mathlib.Nat.{add-zero, add-suc, suc-add, add-le-add}
-use native.Mathlib.Decide.{decLt}
+use native.Mathlib.Nat.{le-refl, add-zero, add-suc, suc-add}
 use lib.ListN.{length}
 use Rattle.numbers.specs.Rows.{tab, upTo, row}
 use Rattle.numbers.specs.Sums.{sumTo}
 use Rattle.numbers.proofs.RowLaws.{upTo-below, upTo-above}
 use Rattle.numbers.proofs.SumLaws.{sumTo-cong, sumTo-front, sumTo-above}
 use Rattle.edf.specs.declared.Slot.{Slot}
-use Rattle.edf.specs.Slots.{emptySlot, slotAt, eachFrom}
+use Rattle.edf.specs.Slots.{emptySlot, slotAt, eachFrom, each}
 
--- each slot has the property
-abbrev pub AllSlots : (Slot → Type 0) → List Slot → Type 0
-AllSlots P [] = Unit {0}
-AllSlots P (s ∷ slots) = P s × AllSlots P slots
+-- A change of each slot that leaves the empty slot as it is.
+module _ (f : ℕ → Slot → Slot) (empty : (k : ℕ) → f k emptySlot ≡ emptySlot) where
+  at-each : (k : ℕ) (slots : List Slot) (i : ℕ) → slotAt (eachFrom k f slots) i ≡ f (k + i) (slotAt slots i)
+  at-each k [] i = sym (empty (k + i))
+  at-each k (s ∷ slots) zero = rw (add-zero k) refl
+  at-each k (s ∷ slots) (suc i) = rw (add-suc k i, ← suc-add k i) (at-each (suc k) slots i)
 
-pub all-at : (P : Slot → Type 0) → P emptySlot → (slots : List Slot) (i : ℕ) → AllSlots P slots → P (slotAt slots i)
-all-at P e [] i a = e
-all-at P e (s ∷ slots) zero a = a .0
-all-at P e (s ∷ slots) (suc i) a = all-at P e slots i (a .1)
+  pub each-at : (slots : List Slot) (i : ℕ) → slotAt (each f slots) i ≡ f (suc i) (slotAt slots i)
+  each-at slots i =
+      let one : 1 + i ≡ suc i = omega arith in
+      rw one at (at-each 1 slots i)
 
-pub all-tab : (P : Slot → Type 0) (w : ℕ) (f : ℕ → Slot) → ((k : ℕ) → P (f k)) → AllSlots P (tab w f)
-unfolding tab
-all-tab P zero f h = tt
-all-tab P (suc w) f h = (h 0, all-tab P w (λ k. f (suc k)) (λ k. h (suc k)))
-
--- what holds of the entries of a row and of the empty slot
-pub all-row : (P : Slot → Type 0) (n : ℕ) (f : ℕ → Slot) → P emptySlot → ((k : ℕ) → k < n → P (f k)) → AllSlots P (row emptySlot n f)
-unfolding row
-all-row P n f e h = all-tab P 16 (upTo emptySlot n f) (λ k. at k (decLt k n))
-  where
-    at : (k : ℕ) → Dec (k < n) → P (upTo emptySlot n f k)
-    at k (yes b) = rw (upTo-below emptySlot n f k b) (h k b)
-    at k (no b) = rw (upTo-above emptySlot n f k (omega arith)) e
-
--- A change of each slot.
-module _ (f : ℕ → Slot → Slot) where
-  pub all-each : (P Q : Slot → Type 0) → ((k : ℕ) (s : Slot) → P s → Q (f k s)) → (k : ℕ) (slots : List Slot) → AllSlots P slots → AllSlots Q (eachFrom k f slots)
-  all-each P Q h k [] a = tt
-  all-each P Q h k (s ∷ slots) a = (h k s (a .0), all-each P Q h (suc k) slots (a .1))
-
-  pub at-each : ((k : ℕ) → f k emptySlot ≡ emptySlot) → (k : ℕ) (slots : List Slot) (i : ℕ) → slotAt (eachFrom k f slots) i ≡ f (k + i) (slotAt slots i)
-  at-each h k [] i = sym (h (k + i))
-  at-each h k (s ∷ slots) zero = rw (add-zero k) refl
-  at-each h k (s ∷ slots) (suc i) = rw (add-suc k i, ← suc-add k i) (at-each h (suc k) slots i)
-
-  pub length-each : (k : ℕ) (slots : List Slot) → length (eachFrom k f slots) ≡ length slots
-  length-each k [] = refl
-  length-each k (s ∷ slots) = ap suc (length-each (suc k) slots)
+pub length-each : (f : ℕ → Slot → Slot) (k : ℕ) (slots : List Slot) → length (eachFrom k f slots) ≡ length slots
+length-each f k [] = refl
+length-each f k (s ∷ slots) = ap suc (length-each f (suc k) slots)
 
 -- one change after another
 pub each-each : (f g : ℕ → Slot → Slot) (k : ℕ) (slots : List Slot) → eachFrom k g (eachFrom k f slots) ≡ eachFrom k (λ j s. g j (f j s)) slots
@@ -62,19 +38,13 @@ abbrev pub totalOver : (Slot → ℕ) → List Slot → ℕ
 totalOver g [] = 0
 totalOver g (s ∷ slots) = g s + totalOver g slots
 
-pub total-most : (P : Slot → Type 0) (g h : Slot → ℕ) → ((s : Slot) → P s → g s ≤ h s) → (slots : List Slot) → AllSlots P slots → totalOver g slots ≤ totalOver h slots
-total-most P g h b [] a = zero-le
-total-most P g h b (s ∷ slots) a = add-le-add (b s (a .0)) (total-most P g h b slots (a .1))
-
-module _ (f : ℕ → Slot → Slot) (g h : Slot → ℕ) where
-  pub total-each : (P : Slot → Type 0) → ((k : ℕ) (s : Slot) → P s → g (f k s) ≡ h s) → (k : ℕ) (slots : List Slot) → AllSlots P slots → totalOver g (eachFrom k f slots) ≡ totalOver h slots
-  total-each P b k [] a = refl
-  total-each P b k (s ∷ slots) a = ap₂ _+_ (b k s (a .0)) (total-each P b (suc k) slots (a .1))
-
-  pub total-each-most : (P : Slot → Type 0) → ((k : ℕ) (s : Slot) → P s → g (f k s) ≤ h s) → (k : ℕ) (slots : List Slot) → AllSlots P slots
-      → totalOver g (eachFrom k f slots) ≤ totalOver h slots
-  total-each-most P b k [] a = zero-le
-  total-each-most P b k (s ∷ slots) a = add-le-add (b k s (a .0)) (total-each-most P b (suc k) slots (a .1))
+-- What bounds the sum of h bounds that of g after a change of each slot, where g is nowhere more than h was.
+pub total-each : (g h : Slot → ℕ) (f : ℕ → Slot → Slot) (k : ℕ) (slots : List Slot)
+    → ((j i : ℕ) → g (f j (slotAt slots i)) ≤ h (slotAt slots i))
+    → (n : ℕ) → totalOver h slots ≤ n → totalOver g (eachFrom k f slots) ≤ n
+total-each g h f k [] b n l = zero-le
+total-each g h f k (s ∷ slots) b n l =
+    omega (arith, b k 0, total-each g h f (suc k) slots (λ j i. b j (suc i)) (totalOver h slots) (le-refl _))
 
 -- The sum over a row is the sum over its entries, where the empty slot has none.
 total-tab : (g : Slot → ℕ) (w : ℕ) (f : ℕ → Slot) → totalOver g (tab w f) ≡ sumTo (λ k. g (f k)) w

@@ -1,24 +1,27 @@
 -- One tick keeps the invariant: every slot can be, and what the slots owe up to any horizon x is at most x. So nobody is refused and nobody is late.
-use Prim.Native.Nat.{ℕ, zero, suc, _+_, _≤_, _<_}
+use Prim.Native.Nat.{ℕ, zero, suc, _+_, _≤_}
 use mathlib.Core.Path.{_≡_, refl}
-use mathlib.Core.Logic.{_⊎_, inl, inr}
-use mathlib.Core.Bool.{Bool, true, false, cond, _&&_}
+use mathlib.Core.Logic.{inl, inr}
+use mathlib.Core.Bool.{Bool, false, cond, and-false}
 use mathlib.Core.List.{List, [], _∷_}
 use native.Mathlib.Omega.{arith}
-use native.Mathlib.Nat.{le-trans, eq-zero-or-pos}
+use native.Mathlib.Nat.{le-refl, le-of-eq, eq-zero-or-pos}
+use lib.Dec.{eqb}
 use borrow.Author.Tests.{lt-leb, ne-eqb, le-ltb}
+use Rattle.numbers.proofs.BoolLaws.{cond-both}
 use Rattle.numbers.proofs.FirstLaws.{first-clear}
 use Rattle.edf.specs.declared.Slot.{Slot}
-use Rattle.edf.specs.Slots.{occupied, slotAt, slotTest, firstSlot, each, cannotBe, firstWrong, CanBe}
-use Rattle.edf.specs.Tick.{due, late, firstLate, release, releaseAll, chosen, run, advanced, advance, advanceAll, stepped, tick}
-use Rattle.edf.proofs.SlotLaws.{AllSlots, all-at, all-each, totalOver, total-each, total-each-most}
+use Rattle.edf.specs.Slots.{occupied, slotAt, slotTest, firstSlot, each, cannotBe, CanBe}
+use Rattle.edf.specs.Tick.{due, late, firstLate, release, releaseAll, chosen, ran, run, advanced, advance, advanceAll, stepped, tick}
+use Rattle.edf.proofs.SlotLaws.{each-at, totalOver, total-each}
+use Rattle.edf.proofs.SlotSteps.{ready-at, ran-at}
 use Rattle.edf.proofs.DemandLaws.{Active, jobs, demandBound, demand-in, demand-advance, advance-can-be, due-later, release-active, release-demand}
-use Rattle.edf.proofs.ChoiceLaws.{run-active, run-jobs, serves}
+use Rattle.edf.proofs.ChoiceLaws.{run-active, serves}
 
 module _ (charge : ℕ) where
   -- The invariant before each tick.
   pub record Good (slots : List Slot) : Type 0 where
-    pub fit : AllSlots (CanBe charge) slots
+    pub fit : (i : ℕ) → CanBe charge (slotAt slots i)
     pub rated : (y : ℕ) → totalOver (jobs charge y) slots ≤ y
     pub met : (x : ℕ) → totalOver (demandBound charge x) slots ≤ x
 
@@ -35,13 +38,10 @@ module _ (charge : ℕ) where
         le-ltb (s .budget + charge) (s .remaining) (u .remaining-in),
       ) refl
 
-  none-wrong : (slots : List Slot) → AllSlots (CanBe charge) slots → firstWrong charge slots ≡ 0
-  unfolding firstSlot slotTest
-  none-wrong slots a = first-clear (slotTest (cannotBe charge) slots) 16 (λ i _. allowed (slotAt slots i) (all-at (CanBe charge) (inl refl) slots i a))
-
   pub tick-stepped : (slots : List Slot) (requests : List ℕ) → Good slots → tick charge slots requests ≡ stepped charge slots requests
-  unfolding tick
-  tick-stepped slots requests g = rw (none-wrong slots (g .fit)) refl
+  unfolding tick firstSlot slotTest
+  tick-stepped slots requests g =
+      rw (first-clear (slotTest (cannotBe charge) slots) 16 (λ i _. allowed (slotAt slots i) (g .fit i))) refl
 
   -- Nobody is late: at a release nothing is owed.
   pub prompt : (slots : List Slot) (i : ℕ) → totalOver (demandBound charge 0) slots ≤ 0 → slotAt slots i .until ≡ 0 → slotAt slots i .remaining ≡ 0
@@ -49,67 +49,44 @@ module _ (charge : ℕ) where
   prompt (s ∷ slots) zero h e = omega (arith, demand-in charge 0 s (omega (arith, e)))
   prompt (s ∷ slots) (suc i) h e = prompt slots i (omega arith) e
 
-  on-time : (s : Slot) → (s .until ≡ 0 → s .remaining ≡ 0) → late s ≡ false
-  on-time s h = go (eq-zero-or-pos (s .until))
-    where
-      off : (t : Bool) → t && false ≡ false
-      off true = refl
-      off false = refl
-
-      go : (s .until ≡ 0) ⊎ (0 < s .until) → late s ≡ false
-      go (inl e) = rw (le-ltb 0 (s .remaining) (omega (arith, h e))) (off (due s))
-      go (inr p) = rw (due-later s p) refl
-
   pub none-late : (slots : List Slot) → totalOver (demandBound charge 0) slots ≤ 0 → firstLate slots ≡ 0
   unfolding firstSlot slotTest
-  none-late slots h = first-clear (slotTest late slots) 16 (λ i _. on-time (slotAt slots i) (prompt slots i h))
+  none-late slots h = first-clear (slotTest late slots) 16 (λ i _. elim (eq-zero-or-pos (slotAt slots i .until)) [
+    | inl e ↦ rw (le-ltb 0 (slotAt slots i .remaining) (omega (arith, prompt slots i h e)), and-false)
+    | inr p ↦ rw (due-later (slotAt slots i) p) refl
+  ])
+
+  -- No step adds to the jobs of a slot.
+  keeps-jobs : (y : ℕ) (b : Bool) (t s : Slot) → jobs charge y t ≡ jobs charge y s
+      → jobs charge y (cond b t s) ≤ jobs charge y s
+  keeps-jobs y b t s e = cond-both (λ r. jobs charge y r ≤ jobs charge y s) b t s (le-of-eq e) (le-refl (jobs charge y s))
 
   -- The three steps.
-  keeps-jobs : (b : Bool) (y : ℕ) (s t : Slot) → jobs charge y t ≡ jobs charge y s → jobs charge y (cond b t s) ≡ jobs charge y s
-  keeps-jobs true y s t e = e
-  keeps-jobs false y s t e = refl
-
-  release-jobs : (y : ℕ) (requests : List ℕ) (k : ℕ) (s : Slot) → jobs charge y (release charge requests k s) ≡ jobs charge y s
-  unfolding release
-  release-jobs y requests k s = keeps-jobs (due s) y s _ refl
-
-  advance-jobs : (y k : ℕ) (s : Slot) → jobs charge y (advance k s) ≡ jobs charge y s
-  advance-jobs y k s = keeps-jobs (occupied s) y s (advanced s) refl
-
-  module _ (slots : List Slot) (requests : List ℕ) where
-    ready-active : AllSlots (CanBe charge) slots → AllSlots (Active charge) (releaseAll charge requests slots)
-    unfolding releaseAll
-    ready-active a = all-each (release charge requests) (CanBe charge) (Active charge) (λ k s f. release-active charge requests k s f) 1 slots a
-
-    stepped-can-be : AllSlots (CanBe charge) slots → AllSlots (CanBe charge) (stepped charge slots requests .slots)
-    unfolding stepped advanceAll
-    stepped-can-be a =
-        let ready : List Slot = releaseAll charge requests slots in
-        let j : ℕ = chosen ready in
-        all-each advance (Active charge) (CanBe charge) (advance-can-be charge) 1 (each (run j) ready)
-        (all-each (run j) (Active charge) (Active charge) (run-active charge j) 1 ready (ready-active a))
-
-    pub stepped-good : Good slots → Good (stepped charge slots requests .slots)
-    unfolding stepped advanceAll releaseAll
-    stepped-good g =
-        let ready : List Slot = releaseAll charge requests slots in
-        let j : ℕ = chosen ready in
-        let a : AllSlots (Active charge) ready = ready-active (g .fit) in
-        let b : AllSlots (Active charge) (each (run j) ready) = all-each (run j) (Active charge) (Active charge) (run-active charge j) 1 ready a in
-        let rated : (y : ℕ) → totalOver (jobs charge y) ready ≤ y = λ y.
-        rw (total-each (release charge requests) (jobs charge y) (jobs charge y) (CanBe charge) (λ k s _. release-jobs y requests k s) 1 slots (g .fit)) (g .rated y) in
-        let met : (x : ℕ) → totalOver (demandBound charge x) ready ≤ x = λ x.
-        le-trans
-        (total-each-most (release charge requests) (demandBound charge x) (demandBound charge x) (CanBe charge) (λ k s f. release-demand charge requests k s x f) 1 slots (g .fit))
-        (g .met x) in
-        record {
-          fit = stepped-can-be (g .fit);
-          rated = λ y.
-              rw (
-                total-each advance (jobs charge y) (jobs charge y) (Active charge) (λ k s _. advance-jobs y k s) 1 (each (run j) ready) b,
-                total-each (run j) (jobs charge y) (jobs charge y) (Active charge) (λ k s _. run-jobs charge y j k s) 1 ready a,
-              ) (rated y);
-          met = λ y.
-              rw (total-each advance (demandBound charge y) (demandBound charge (suc y)) (Active charge) (λ k s c. demand-advance charge y k s c) 1 (each (run j) ready) b)
-              (serves charge ready y a (rated y) (met (suc y)));
-        }
+  pub stepped-good : (slots : List Slot) (requests : List ℕ) → Good slots → Good (stepped charge slots requests .slots)
+  unfolding stepped advanceAll releaseAll release
+  stepped-good slots requests g =
+      let ready : List Slot = releaseAll charge requests slots in
+      let j : ℕ = chosen ready in
+      let after : List Slot = each (run j) ready in
+      let a : (i : ℕ) → Active charge (slotAt ready i) = λ i.
+      rw (ready-at charge requests slots i) (release-active charge requests (suc i) (slotAt slots i) (g .fit i)) in
+      let b : (i : ℕ) → Active charge (slotAt after i) = λ i.
+      rw (ran-at j ready i) (run-active charge j (suc i) (slotAt ready i) (a i)) in
+      let rated : (y : ℕ) → totalOver (jobs charge y) ready ≤ y = λ y.
+      total-each (jobs charge y) (jobs charge y) (release charge requests) 1 slots
+      (λ k i. keeps-jobs y (due (slotAt slots i)) _ (slotAt slots i) refl) y (g .rated y) in
+      let met : (x : ℕ) → totalOver (demandBound charge x) ready ≤ x = λ x.
+      total-each (demandBound charge x) (demandBound charge x) (release charge requests) 1 slots
+      (λ k i. release-demand charge requests k (slotAt slots i) x (g .fit i)) x (g .met x) in
+      record {
+        fit = λ i. rw (each-at advance (λ k. refl) after i) (advance-can-be charge (suc i) (slotAt after i) (b i));
+        rated = λ y.
+            total-each (jobs charge y) (jobs charge y) advance 1 after
+            (λ k i. keeps-jobs y (occupied (slotAt after i)) (advanced (slotAt after i)) (slotAt after i) refl) y
+            (total-each (jobs charge y) (jobs charge y) (run j) 1 ready
+            (λ k i. keeps-jobs y (eqb k j) (ran (slotAt ready i)) (slotAt ready i) refl) y (rated y));
+        met = λ y.
+            total-each (demandBound charge y) (demandBound charge (suc y)) advance 1 after
+            (λ k i. le-of-eq (demand-advance charge y k (slotAt after i) (b i))) y
+            (serves charge ready y a (rated y) (met (suc y)));
+      }
