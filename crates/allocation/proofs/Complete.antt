@@ -1,240 +1,165 @@
 -- The walk passes over nothing that is better than what it has stored.
 use Prim.Native.Nat.{ℕ, zero, suc, _+_, _≤_, _<_}
-use native.Mathlib.Nat.{le-trans}
-use native.Mathlib.Decide.{decLe}
+use native.Mathlib.Nat.{le-refl, le-trans}
 use native.Mathlib.Omega.{arith}
 use mathlib.Core.Path.{_≡_, refl, sym, _∙_}
 use mathlib.Core.Bool.{Bool, true, false, true≢false}
-use mathlib.Core.List.{List, [], _∷_, _++_, append-nil, List·Memᴰ, List·Memᴰ·head, List·Memᴰ·tail, List·Memᴰ·cases-cons, List·Memᴰ·not-nil}
-use mathlib.Core.Logic.{_⊎_, inl, inr}
-use lib.ListN.{length, length-append}
-use lib.Seq.{append-snoc, getD-append-seam}
+use mathlib.Core.List.{List, [], _∷_, _++_, append-nil}
+use mathlib.Core.Logic.{_⊎_, inl, inr, ⊎-elim}
+use lib.ListN.{length, getD, length-append}
+use lib.Seq.{append-snoc, getD-append-seam, take-append-seam, take-all}
+use borrow.Author.Tests.{lt-ltb, le-leb, ne-eqb}
 use Rattle.allocation.specs.Placement.{Problem, Feasible, rejected, load}
 use Rattle.allocation.specs.Best.{Earlier, Before}
 use Rattle.allocation.specs.Rule.{tried, Redundant}
+use Rattle.allocation.specs.Walk.{Step, stepInto, boundAfter, storedAfter, fits, entered, tryAll, visit, choices}
+use Rattle.numbers.proofs.BoolLaws.{and-intro}
 use Rattle.numbers.proofs.LoadLaws.{demandOn-mono}
 use Rattle.allocation.proofs.Demands.{excess-le}
-use Rattle.allocation.specs.Walk.{Step, leaf, stepInto, boundAfter, storedAfter, entered, tryAll, visit, choices}
-use Rattle.allocation.proofs.Order.{Ordered, more, earlier-irrefl, earlier-trans, before-at, choices-ordered, choices-all, choices-le}
-use Rattle.allocation.proofs.Steps.{Leaves, Settled, leaves-settled, boundAfter-append, storedAfter-append}
-use Rattle.allocation.proofs.Sound.{Partial, Under, into, Entered, entered-says, entered-if, partial-snoc, bound-le, try-skip, try-enter, step-sound, visit-sound}
+use Rattle.allocation.proofs.Order.{earlier-trans, before-ne, before-at, length-choices, choice-core, choice-none, Ordered, choices-ordered}
+use Rattle.allocation.proofs.Steps.{boundAfter-append, storedAfter-append}
+use Rattle.allocation.proofs.Sound.{into, entered-rejects, try-skip, try-enter}
 
--- q comes before every completion of p that rejects just b
-abbrev pub Ahead : Problem → List ℕ → ℕ → List ℕ → Type 0
-Ahead P p b q = (r : List ℕ) → Feasible P (p ++ r) → rejected P (p ++ r) ≡ b → (q ≡ p ++ r) ⊎ Before q (p ++ r)
+-- x begins with the choices p
+abbrev pub Begins : List ℕ → List ℕ → Type 0
+Begins p x = (r : List ℕ) × (x ≡ p ++ r)
 
--- every completion of p with the next choice c rejects at least b
-abbrev pub Beaten : Problem → List ℕ → ℕ → ℕ → Type 0
-Beaten P p c b = (r : List ℕ) → Feasible P (p ++ (c ∷ r)) → b ≤ rejected P (p ++ (c ∷ r))
+-- x is yet to come: after p it makes one of the choices cs, or it is in R
+abbrev Coming : (List ℕ → Type 0) → List ℕ → List ℕ → List ℕ → Type 0
+Coming R p [] x = R x
+Coming R p (c ∷ cs) x = Begins (p ++ (c ∷ [])) x ⊎ Coming R p cs x
 
-pub record Covers (P : Problem) (p : List ℕ) (b : ℕ) (q : List ℕ) : Type 0 where
-  pub least : (r : List ℕ) → Feasible P (p ++ r) → b ≤ rejected P (p ++ r)
-  pub first : Ahead P p b q
+-- The bound is b, q is stored, and R is yet to come: q comes before all others that reject b, and what rejects less is in R.
+pub record Kept (P : Problem) (R : List ℕ → Type 0) (b : ℕ) (q : List ℕ) : Type 0 where
+  pub bound : rejected P q ≤ b
+  pub first : (x : List ℕ) → Feasible P x → rejected P x ≡ b → (q ≡ x) ⊎ Before q x
+  pub left : (x : List ℕ) → Feasible P x → rejected P x < b → R x
 
+-- what a feasible placement says of one of its choices
 module _ (P : Problem) (p : List ℕ) (c : ℕ) (r : List ℕ) where
   at-seam : length p < length (p ++ (c ∷ r))
   at-seam = omega (arith, length-append p (c ∷ r))
 
-  -- what a feasible placement says of one of its choices
-  pub choice-core : Feasible P (p ++ (c ∷ r)) → c ≤ P .cores
-  choice-core f = rw getD-append-seam at (f .core (length p) at-seam)
+  choice-within : Feasible P (p ++ (c ∷ r)) → c ≤ P .cores
+  choice-within f = rw getD-append-seam at (f .core (length p) at-seam)
 
-  pub choice-permitted : Feasible P (p ++ (c ∷ r)) → 1 ≤ c → P .permits (length p) c ≡ true
+  choice-permitted : Feasible P (p ++ (c ∷ r)) → 1 ≤ c → P .permits (length p) c ≡ true
   choice-permitted f = rw getD-append-seam at (f .permitted (length p) at-seam)
 
-  pub snoc-mono : (d : ℕ) → load P d (p ++ (c ∷ [])) ≤ load P d (p ++ (c ∷ r))
+  snoc-mono : (d : ℕ) → load P d (p ++ (c ∷ [])) ≤ load P d (p ++ (c ∷ r))
   snoc-mono d = rw append-snoc at (demandOn-mono d (P .demands) (p ++ (c ∷ [])) r)
 
+choice-fits : (P : Problem) (p : List ℕ) (c : ℕ) (r : List ℕ) → Feasible P (p ++ (c ∷ r)) → fits P p c ≡ true
+choice-fits P p zero r f = refl
+choice-fits P p (suc c) r f =
+    let l = f .fits (suc c) (omega arith) (choice-within P p (suc c) r f) in
+    rw (ne-eqb (suc c) 0 (λ q. omega arith))
+    (and-intro _ _ (choice-permitted P p (suc c) r f (omega arith))
+    (le-leb _ _ (le-trans (snoc-mono P p (suc c) r (suc c)) l)))
+
+-- all of R comes after what begins with p
+abbrev After : (List ℕ → Type 0) → List ℕ → Type 0
+After R p = (r x : List ℕ) → R x → Before (p ++ r) x
+
+module _ (R : List ℕ → Type 0) (p : List ℕ) where
+  coming-rest : (cs : List ℕ) {x : List ℕ} → R x → Coming R p cs x
+  coming-rest [] h = h
+  coming-rest (c ∷ cs) h = inr (coming-rest cs h)
+
+  coming-at : (cs : List ℕ) (j : ℕ) → j < length cs → (r : List ℕ) → Coming R p cs (p ++ (getD cs j 0 ∷ r))
+  coming-at [] j l r = absurd (omega arith)
+  coming-at (c ∷ cs) zero l r = inl (r, sym (append-snoc p c r))
+  coming-at (c ∷ cs) (suc j) l r = inr (coming-at cs j (omega arith) r)
+
+  coming-choice : (m d : ℕ) → d ≤ m → (r : List ℕ) → Coming R p (choices m) (p ++ (d ∷ r))
+  coming-choice m zero l r = rw (choice-none m) at (coming-at (choices m) m (omega (arith, length-choices m)) r)
+  coming-choice m (suc d) l r = rw (choice-core m d l) at (coming-at (choices m) d (omega (arith, length-choices m)) r)
+
+  -- a choice d that is earlier than all of cs
+  module _ (after : After R p) (d : ℕ) (r : List ℕ) where
+    coming-after : (cs : List ℕ) → ((j : ℕ) → j < length cs → Earlier d (getD cs j 0)) → {x : List ℕ} → Coming R p cs x
+        → Before (p ++ (d ∷ r)) x
+    coming-after [] h {x} y = after (d ∷ r) x y
+    coming-after (c ∷ cs) h (inl y) = rw (y .1, append-snoc p c (y .0)) (before-at p r (y .0) (h 0 (omega arith)))
+    coming-after (c ∷ cs) h (inr y) = coming-after cs (λ j l. h (suc j) (omega arith)) y
+
 module _ (P : Problem) (redundant : Redundant P) where
-  -- a choice that is not entered
-  skip-beaten : (p : List ℕ) (c b : ℕ) → entered P p c b ≡ false → ((d : ℕ) → d ≤ P .cores → Earlier d c → Beaten P p d b) → Beaten P p c b
-  skip-beaten p c b e h r f = go (tried P p c) refl (decLe b (rejected P (p ++ (c ∷ r))))
-    where
-      go : (s : Bool) → tried P p c ≡ s → Dec (b ≤ rejected P (p ++ (c ∷ r))) → b ≤ rejected P (p ++ (c ∷ r))
-      go s q (yes l) = l
-      go false q (no l) =
-          let x = redundant p c r q f in
-          let y = h (x .choice) (choice-core P p (x .choice) (x .rest) (x .feasible)) (x .earlier) (x .rest) (x .feasible) in
-          omega (arith, x .no-more)
-      go true q (no l) =
-          let n : Entered P p c b = record {
-            permitted = choice-permitted P p c r f;
-            tries = q;
-            fits = λ i. le-trans (snoc-mono P p c r c) (f .fits c i (choice-core P p c r f));
-            rejects = omega (arith, snoc-mono P p c r 0);
-            over = omega (arith, excess-le P (p ++ (c ∷ r)) f);
-          } in
-          absurd (true≢false (sym (entered-if P p c b n) ∙ e))
+  -- less is yet to come
+  narrow : {R S : List ℕ → Type 0} {b : ℕ} {q : List ℕ} → ((x : List ℕ) → Feasible P x → rejected P x < b → R x → S x)
+      → Kept P R b q → Kept P S b q
+  narrow h s = record { bound = s .bound; first = s .first; left = λ x f l. h x f l (s .left x f l) }
 
-  module _ (k : ℕ) (below : List ℕ → ℕ → List Step) where
-    -- what is asked of the steps into a child
-    record Child (p : List ℕ) (c b : ℕ) : Type 0 where
-      sound : Leaves (Under P (p ++ (c ∷ [])) b) (into k below p c b)
-      covers : (q : List ℕ) → Ahead P (p ++ (c ∷ [])) b q → Covers P (p ++ (c ∷ [])) (boundAfter P b (into k below p c b)) (storedAfter q (into k below p c b))
+  -- what the step to p and those that follow it do, with k tasks still to place
+  abbrev Deep : ℕ → Type 1
+  Deep k = (R : List ℕ → Type 0) (p : List ℕ) → After R p → length p + k ≡ length (P .demands) → (b : ℕ) (q : List ℕ)
+      → rejected P p < b → Kept P (λ x. Begins p x ⊎ R x) b q
+      → Kept P R (boundAfter P b (stepInto k p ∷ visit P k p b)) (storedAfter q (stepInto k p ∷ visit P k p b))
 
-    -- what a node's state is after some of its choices: those left are cs
-    record Tried (p cs : List ℕ) (b : ℕ) (q : List ℕ) : Type 0 where
-      ahead : Ahead P p b q
-      left : (d : ℕ) → d ≤ P .cores → Beaten P p d b ⊎ List·Memᴰ d cs
+  -- the choices of a node
+  module _ (k : ℕ) (deep : Deep k) (R : List ℕ → Type 0) (p : List ℕ) (after : After R p)
+      (short : length p + suc k ≡ length (P .demands)) where
+    abbrev tries : List ℕ → ℕ → List Step
+    tries cs b = tryAll P k (λ p′ b′. visit P k p′ b′) p cs b
 
-    module _
-        (p : List ℕ)
-        (short : length p < length (P .demands))
-        (c : ℕ)
-        (cs : List ℕ)
-        (later : (d : ℕ) → List·Memᴰ d cs → Earlier c d)
-        (b : ℕ)
-        (q : List ℕ)
-        (s : Tried p (c ∷ cs) b q)
+    abbrev Ends : List ℕ → ℕ → List ℕ → Type 0
+    Ends cs b q = Kept P R (boundAfter P b (tries cs b)) (storedAfter q (tries cs b))
+
+    try-kept : (cs : List ℕ) → Ordered cs → (b : ℕ) (q : List ℕ) → Kept P (Coming R p cs) b q → Ends cs b q
+    unfolding tryAll boundAfter storedAfter entered
+    try-kept [] o b q s = s
+    try-kept (c ∷ cs) o b q s =
+        go (entered P p c b) refl (try-kept cs (λ i j h l. o (suc i) (suc j) (omega arith) (omega arith)))
       where
-        tried-skip : entered P p c b ≡ false → Tried p cs b q
-        tried-skip e = record {
-          ahead = s .ahead;
-          left = λ d l. go d (s .left d l);
-        }
+        later : (j : ℕ) → j < length cs → Earlier c (getD cs j 0)
+        later j l = o 0 (suc j) (omega arith) (omega arith)
+
+        from : (d : ℕ) → Earlier d c → (j : ℕ) → j < length (c ∷ cs) → Earlier d (getD (c ∷ cs) j 0)
+        from d x zero i = x
+        from d x (suc j) i = earlier-trans x (later j (omega arith))
+
+        -- c is not entered: nothing through it is better
+        beaten : entered P p c b ≡ false → (r : List ℕ) → Feasible P (p ++ (c ∷ r)) → rejected P (p ++ (c ∷ r)) < b → ⊥
+        beaten e r f l = look (tried P p c) refl
           where
-            past : (d : ℕ) → Earlier d c → Beaten P p d b ⊎ List·Memᴰ d (c ∷ cs) → Beaten P p d b
-            past d x (inl y) = y
-            past d x (inr i) = stop (List·Memᴰ·cases-cons i)
-              where
-                stop : (d ≡ c) ⊎ List·Memᴰ d cs → Beaten P p d b
-                stop (inl y) = absurd (earlier-irrefl (rw y at x))
-                stop (inr y) = absurd (earlier-irrefl (earlier-trans x (later d y)))
+            enters : tried P p c ≡ true → entered P p c b ≡ true
+            enters t =
+                and-intro _ _ (and-intro _ _ (choice-fits P p c r f) t)
+                (lt-ltb _ b (omega (arith, snoc-mono P p c r 0, excess-le P (p ++ (c ∷ r)) f)))
 
-            here : Beaten P p c b
-            here = skip-beaten p c b e (λ d l x. past d x (s .left d l))
+            look : (t : Bool) → tried P p c ≡ t → ⊥
+            look false t =
+                let x = redundant p c r t f in
+                let y = s .left _ (x .feasible) (omega (arith, x .no-more)) in
+                before-ne (coming-after R p after (x .choice) (x .rest) (c ∷ cs) (from (x .choice) (x .earlier)) y) refl
+            look true t = true≢false (sym (enters t) ∙ e)
 
-            go : (d : ℕ) → Beaten P p d b ⊎ List·Memᴰ d (c ∷ cs) → Beaten P p d b ⊎ List·Memᴰ d cs
-            go d (inl y) = inl y
-            go d (inr i) = stop (List·Memᴰ·cases-cons i)
-              where
-                stop : (d ≡ c) ⊎ List·Memᴰ d cs → Beaten P p d b ⊎ List·Memᴰ d cs
-                stop (inl y) = inl (rw y here)
-                stop (inr y) = inr y
+        t : List Step
+        t = into k (λ p′ b′. visit P k p′ b′) p c b
 
-        tried-enter : Child p c b → Tried p cs (boundAfter P b (into k below p c b)) (storedAfter q (into k below p c b))
-        tried-enter h = record {
-          ahead = λ r f e. settle r f e (leaves-settled (Under P (p ++ (c ∷ [])) b) P b q t (h .sound));
-          left = λ d l. go d (s .left d l);
-        }
-          where
-            t : List Step
-            t = into k below p c b
-
-            b′ : ℕ
-            b′ = boundAfter P b t
-
-            q′ : List ℕ
-            q′ = storedAfter q t
-
-            covers : Covers P (p ++ (c ∷ [])) b′ q′
-            covers = h .covers q (λ r f e. rw append-snoc (s .ahead (c ∷ r) (rw append-snoc at f) (rw append-snoc at e)))
-
-            lower : b′ ≤ b
-            lower = bound-le P (p ++ (c ∷ [])) b t (h .sound)
-
-            here : Beaten P p c b′
-            here r f = rw append-snoc at (covers .least r (rw append-snoc f))
-
-            go : (d : ℕ) → Beaten P p d b ⊎ List·Memᴰ d (c ∷ cs) → Beaten P p d b′ ⊎ List·Memᴰ d cs
-            go d (inl y) = inl (λ r f. le-trans lower (y r f))
-            go d (inr i) = stop (List·Memᴰ·cases-cons i)
-              where
-                stop : (d ≡ c) ⊎ List·Memᴰ d cs → Beaten P p d b′ ⊎ List·Memᴰ d cs
-                stop (inl y) = inl (rw y here)
-                stop (inr y) = inr y
-
-            settle : (r : List ℕ) → Feasible P (p ++ r) → rejected P (p ++ r) ≡ b′
-                → Settled (Under P (p ++ (c ∷ [])) b) P b q t → (q′ ≡ p ++ r) ⊎ Before q′ (p ++ r)
-            settle r f e (inl x) = rw (x .1) (s .ahead r f (e ∙ x .0))
-            settle [] f e (inr u) = absurd (omega (arith, f .whole, length-append p []))
-            settle (d ∷ r) f e (inr u) = part (s .left d (choice-core P p d r f))
-              where
-                part : Beaten P p d b ⊎ List·Memᴰ d (c ∷ cs) → (q′ ≡ p ++ (d ∷ r)) ⊎ Before q′ (p ++ (d ∷ r))
-                part (inl y) = absurd (omega (arith, y r f, u .0 .below, u .1, e))
-                part (inr i) = side (List·Memᴰ·cases-cons i)
-                  where
-                    side : (d ≡ c) ⊎ List·Memᴰ d cs → (q′ ≡ p ++ (d ∷ r)) ⊎ Before q′ (p ++ (d ∷ r))
-                    side (inl y) =
-                        rw (y, ← append-snoc p c r) (covers .first r (rw append-snoc (rw y at f)) (rw append-snoc (rw y at e)))
-                    side (inr y) = inr (rw (u .0 .is, append-snoc p c (u .0 .rest)) (before-at p (u .0 .rest) r (later d y)))
-
-    -- once every choice has been tried
-    try-covers : (p : List ℕ) → length p < length (P .demands) → (cs : List ℕ) → Ordered cs
-        → ((c b : ℕ) → List·Memᴰ c cs → entered P p c b ≡ true → Child p c b)
-        → (b : ℕ) (q : List ℕ) → Tried p cs b q
-        → Tried p [] (boundAfter P b (tryAll P k below p cs b)) (storedAfter q (tryAll P k below p cs b))
-    unfolding tryAll boundAfter storedAfter
-    try-covers p short [] o h b q s = s
-    try-covers p short (c ∷ cs) (more later o) h b q s =
-        go (entered P p c b) refl (λ b′ q′ s′. try-covers p short cs o (λ d b″ i e. h d b″ (List·Memᴰ·tail i) e) b′ q′ s′)
-      where
-        go : (x : Bool) → entered P p c b ≡ x
-            → ((b′ : ℕ) (q′ : List ℕ) → Tried p cs b′ q′ → Tried p [] (boundAfter P b′ (tryAll P k below p cs b′)) (storedAfter q′ (tryAll P k below p cs b′)))
-            → Tried p [] (boundAfter P b (tryAll P k below p (c ∷ cs) b)) (storedAfter q (tryAll P k below p (c ∷ cs) b))
-        go false e rest = rw (try-skip P k below p c cs b e) (rest b q (tried-skip p short c cs later b q s e))
+        go : (x : Bool) → entered P p c b ≡ x → ((b′ : ℕ) (q′ : List ℕ) → Kept P (Coming R p cs) b′ q′ → Ends cs b′ q′)
+            → Ends (c ∷ cs) b q
+        go false e rest =
+            rw (try-skip P k _ p c cs b e) (rest b q (narrow (λ x f l. ⊎-elim
+            (λ y. let i = y .1 ∙ append-snoc p c (y .0) in absurd (beaten e (y .0) (rw i at f) (rw i at l))) (λ y. y)) s))
         go true e rest =
-            let t : List Step = into k below p c b in
-            rw (try-enter P k below p c cs b e)
-            (rw (boundAfter-append P b t, storedAfter-append q t)
-            (rest (boundAfter P b t) (storedAfter q t) (tried-enter p short c cs later b q s (h c b (List·Memᴰ·head refl) e))))
+            rw (try-enter P k _ p c cs b e, boundAfter-append P b t, storedAfter-append q t) (rest _ _
+            (deep (λ x. Coming R p cs x) (p ++ (c ∷ [])) (λ r x y. rw append-snoc (coming-after R p after c r cs later y))
+            (omega (arith, length-append p (c ∷ []))) b q (entered-rejects P p c b e) s))
 
-    tried-covers : (p : List ℕ) → length p < length (P .demands) → (b : ℕ) (q : List ℕ) → Tried p [] b q → Covers P p b q
-    tried-covers p short b q s = record { least = least; first = s .ahead }
-      where
-        beaten : (d : ℕ) → Beaten P p d b ⊎ List·Memᴰ d [] → Beaten P p d b
-        beaten d (inl y) = y
-        beaten d (inr i) = absurd (List·Memᴰ·not-nil i)
-
-        least : (r : List ℕ) → Feasible P (p ++ r) → b ≤ rejected P (p ++ r)
-        least [] f = absurd (omega (arith, f .whole, length-append p []))
-        least (d ∷ r) f = beaten d (s .left d (choice-core P p d r f)) r f
-
-  -- the step into the last task's choice stores its placement
-  leaf-covers : (p : List ℕ) (b : ℕ) (q : List ℕ) → length p ≡ length (P .demands) → Covers P p (boundAfter P b (leaf p ∷ [])) (storedAfter q (leaf p ∷ []))
-  unfolding boundAfter storedAfter
-  leaf-covers p b q l = record {
-    least = λ r f. demandOn-mono 0 (P .demands) p r;
-    first = λ r f e. inl (go r (f .whole));
+  pub deep : (k : ℕ) → Deep k
+  unfolding visit stepInto boundAfter storedAfter
+  deep zero R p after n b q h s = record {
+    bound = le-refl (rejected P p);
+    first = λ x f e. ⊎-elim (λ y. inl (same x f y)) (λ y. inr (rw append-nil at (after [] x y))) (s .left x f (omega arith));
+    left = λ x f e. ⊎-elim (λ y. absurd (omega (arith, rw (← same x f y) at e))) (λ y. y) (s .left x f (omega arith));
   }
     where
-      go : (r : List ℕ) → length (p ++ r) ≡ length (P .demands) → p ≡ p ++ r
-      go [] e = sym (append-nil p)
-      go (x ∷ r) e = absurd (omega (arith, length-append p (x ∷ r)))
-
-  -- the step into a node with k tasks left, and the steps below it
-  abbrev Deep : ℕ → Type 0
-  Deep k = (p : List ℕ) (b : ℕ) (q : List ℕ) → length p + k ≡ length (P .demands) → Partial P p → Ahead P p b q
-      → Covers P p (boundAfter P b (stepInto k p ∷ visit P k p b)) (storedAfter q (stepInto k p ∷ visit P k p b))
-
-  -- the steps below a node with tasks left
-  node-covers : (k : ℕ) → Deep k → (p : List ℕ) (b : ℕ) (q : List ℕ) → length p + suc k ≡ length (P .demands) → Partial P p → Ahead P p b q
-      → Covers P p (boundAfter P b (visit P (suc k) p b)) (storedAfter q (visit P (suc k) p b))
-  unfolding visit
-  node-covers k deep p b q l h a =
-      tried-covers k below p short _ _
-      (try-covers k below p short (choices (P .cores)) (choices-ordered (P .cores)) (λ c b′ i e. child c b′ i e) b q
-      (record { ahead = a; left = λ d m. inr (choices-all (P .cores) d m) }))
+      same : (x : List ℕ) → Feasible P x → Begins p x → p ≡ x
+      same x f y = sym (take-append-seam p (y .0)) ∙ rw (← y .1) (take-all (length p) x (omega (arith, f .whole)))
+  deep (suc k) R p after n b q h s =
+      try-kept k (deep k) R p after n (choices (P .cores)) (choices-ordered (P .cores)) b q
+      (narrow (λ x f l. ⊎-elim (λ y. opens x f (y .0) (y .1)) (coming-rest R p (choices (P .cores)))) s)
     where
-      below : List ℕ → ℕ → List Step
-      below p′ b′ = visit P k p′ b′
-
-      short : length p < length (P .demands)
-      short = omega arith
-
-      longer : (c : ℕ) → length (p ++ (c ∷ [])) + k ≡ length (P .demands)
-      longer c = omega (arith, length-append p (c ∷ []))
-
-      child : (c b′ : ℕ) → List·Memᴰ c (choices (P .cores)) → entered P p c b′ ≡ true → Child k below p c b′
-      child c b′ i e =
-          let m = choices-le (P .cores) c i in
-          record {
-            sound = step-sound P k p c b′ l m h e (λ h′. visit-sound P k (p ++ (c ∷ [])) b′ (longer c) h′);
-            covers = λ q′ a′. deep (p ++ (c ∷ [])) b′ q′ (longer c) (partial-snoc P p c b′ m (entered-says P p c b′ e) h) a′;
-          }
-
-  pub visit-covers : (k : ℕ) (p : List ℕ) (b : ℕ) (q : List ℕ) → length p + suc k ≡ length (P .demands) → Partial P p → Ahead P p b q
-      → Covers P p (boundAfter P b (visit P (suc k) p b)) (storedAfter q (visit P (suc k) p b))
-  unfolding boundAfter storedAfter stepInto visit
-  visit-covers zero = node-covers zero (λ p b q l h a. leaf-covers p b q (omega arith))
-  visit-covers (suc k) = node-covers (suc k) (λ p b q l h a. visit-covers k p b q l h a)
+      opens : (x : List ℕ) → Feasible P x → (r : List ℕ) → x ≡ p ++ r → Coming R p (choices (P .cores)) x
+      opens x f [] i = absurd (omega (arith, rw i at (f .whole), length-append p []))
+      opens x f (d ∷ r) i = rw i (coming-choice R p (P .cores) d (choice-within P p d r (rw i at f)) r)

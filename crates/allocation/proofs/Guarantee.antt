@@ -1,14 +1,15 @@
 -- The answer for a table keeps what is promised of it.
 use Prim.Native.Nat.{ℕ, _≤_, _<_}
 use native.Mathlib.Omega.{arith}
-use mathlib.Core.Path.{_≡_, refl, sym, _∙_, ap}
+use mathlib.Core.Path.{_≡_, refl, sym}
 use mathlib.Core.Bool.{true≢false}
 use mathlib.Core.List.{List}
-use mathlib.Core.Logic.{_⊎_, inl, inr}
+use mathlib.Core.Logic.{_⊎_, ⊎-map}
 use lib.ListN.{length, getD, take, replicate}
-use borrow.Author.Tests.{ltb-true, ltb-false, lt-ltb}
+use borrow.Author.Tests.{ltb-true, ltb-false}
 use Rattle.numbers.specs.Sorting.{Permutation}
 use Rattle.numbers.specs.Reorder.{scatter}
+use Rattle.numbers.proofs.BoundLaws.{less-exactly}
 use Rattle.numbers.proofs.ReorderLaws.{scatter-none}
 use Rattle.allocation.specs.Placement.{Problem, rejected}
 use Rattle.allocation.specs.Rule.{tried, Redundant}
@@ -44,20 +45,17 @@ module _ (T : Problem) (order : List ℕ) (perm : Permutation (length (T .demand
 
   stores : ((p : List ℕ) × LastLeaf made p × (placed ≡ scatter order p)) ⊎ (NoLeaf made × (placed ≡ replicate (length (T .demands)) 0))
   unfolding stored
-  stores = go (last-stored (none P) made)
-    where
-      go : LastLeaf made (stored P limit) ⊎ (NoLeaf made × (stored P limit ≡ none P))
-          → ((p : List ℕ) × LastLeaf made p × (placed ≡ scatter order p)) ⊎ (NoLeaf made × (placed ≡ replicate (length (T .demands)) 0))
-      go (inl l) = inl (stored P limit, l, refl)
-      go (inr n) =
-          inr (n .0, ap (scatter order) (n .1 ∙ ap (λ (k : ℕ). replicate k 0) (inPlanningOrder-long T order perm)) ∙ scatter-none (length (T .demands)) order perm)
+  stores =
+      ⊎-map (λ l. (stored P limit, l, refl))
+      (λ n. (n .0, rw (n .1, inPlanningOrder-long T order perm) (scatter-none (length (T .demands)) order perm)))
+      (last-stored (none P) made)
 
   pub guaranteed : Guarantee T order limit (tableAnswer T order limit)
   unfolding tableAnswer answer
   guaranteed = record {
     feasible = feasible-scatter T order perm (stored P limit) (stored-feasible P limit);
     rejects = rejects;
-    spent = (λ e. ltb-true limit (length (trace P)) e, λ l. lt-ltb limit (length (trace P)) l);
+    spent = less-exactly limit (length (trace P));
     limited = λ e. omega (arith, ltb-true limit (length (trace P)) e);
     stores = stores;
     complete = λ e. omega (arith, ltb-false limit (length (trace P)) e);

@@ -1,21 +1,21 @@
 -- The complete walk ends with the best plan.
 use Prim.Native.Nat.{ℕ, zero, suc, _+_, _≤_, _<_, zero-le}
-use native.Mathlib.Nat.{le-refl, zero-add}
 use native.Mathlib.Omega.{arith}
-use mathlib.Core.Path.{_≡_, refl, sym, _∙_}
+use mathlib.Core.Path.{_≡_, refl}
 use mathlib.Core.List.{List, [], _∷_}
-use mathlib.Core.Logic.{inl, inr, _↔_}
-use lib.ListN.{length, getD, replicate, take, length-replicate, getD-replicate}
+use mathlib.Core.Logic.{inl, _↔_}
+use lib.ListN.{length, getD, replicate, length-replicate}
 use lib.Seq.{take-all}
 use Rattle.allocation.specs.Placement.{Problem, Feasible, Full, rejected, total}
 use Rattle.allocation.specs.Best.{IsBest}
 use Rattle.numbers.proofs.LoadLaws.{demandOn-le-sum, none-loads}
+use Rattle.numbers.proofs.ZeroLaws.{zero-at}
 use Rattle.allocation.proofs.Demands.{full-rejects, rejects-full}
-use Rattle.allocation.specs.Walk.{Step, trace, visit, stored, boundAfter, storedAfter}
-use Rattle.allocation.proofs.Steps.{Settled, leaves-map, leaves-take, leaves-stored, leaves-settled}
-use Rattle.allocation.proofs.Sound.{Partial, Under, visit-sound}
+use Rattle.allocation.specs.Walk.{trace, visit, stepInto, stored, boundAfter, storedAfter}
+use Rattle.allocation.proofs.Steps.{Leaves, leaves-stored}
+use Rattle.allocation.proofs.Sound.{Partial, into-sound}
 use Rattle.allocation.specs.Rule.{Redundant}
-use Rattle.allocation.proofs.Complete.{Covers, visit-covers}
+use Rattle.allocation.proofs.Complete.{Kept, deep}
 
 module _ (P : Problem) where
   -- every task rejected
@@ -25,70 +25,63 @@ module _ (P : Problem) where
   pub none-feasible : Feasible P none
   none-feasible = record {
     whole = length-replicate (length (P .demands)) 0;
-    core = λ k l. rw (zeros k l) zero-le;
-    permitted = λ k l i. absurd (omega (arith, zeros k l));
+    core = λ k l. rw zero-at zero-le;
+    permitted = λ k l i. absurd (omega (arith, rw zero-at at i));
     fits = λ c i j. rw (none-loads c i (P .demands) (length (P .demands))) zero-le;
   }
-    where
-      zeros : (k : ℕ) → k < length none → getD none k 0 ≡ 0
-      zeros k l = getD-replicate (length (P .demands)) k 0 0 (omega (arith, length-replicate {A = ℕ} (length (P .demands)) 0))
 
-  pub start : Partial P []
-  start = record { core = λ k l. absurd (omega arith); permitted = λ k l. absurd (omega arith); fits = λ c i j. rw (none-loads c i (P .demands) 0) zero-le }
+  start : Partial P []
+  start = record {
+    core = λ k l. absurd (omega arith);
+    permitted = λ k l. absurd (omega arith);
+    fits = λ c i j. rw (none-loads c i (P .demands) 0) zero-le;
+  }
+
+  -- what the walk completes is feasible, where the number of tasks is k
+  sound : (k : ℕ) → length (P .demands) ≡ k → Leaves (Feasible P) (visit P k [] (total P + 1))
+  unfolding visit stepInto
+  sound zero l = tt
+  sound (suc k) l = into-sound P (suc k) [] (total P + 1) (omega arith) start
 
   -- whatever the limit, what is stored is feasible
   pub stored-feasible : (limit : ℕ) → Feasible P (stored P limit)
   unfolding stored trace
-  stored-feasible limit =
-      let n = length (P .demands) in
-      let t = trace P in
-      let b = total P + 1 in
-      leaves-stored (Feasible P) none (take limit t) none-feasible
-      (leaves-take (Feasible P) limit t
-      (leaves-map (Under P [] b) (Feasible P) (λ q u. u .feasible) t (visit-sound P n [] b (zero-add n) start)))
+  stored-feasible limit = leaves-stored (Feasible P) limit none (trace P) none-feasible (sound (length (P .demands)) refl)
 
   module _ (redundant : Redundant P) where
-    -- the complete walk, where the number of tasks is k
-    walked : (k : ℕ) → length (P .demands) ≡ k → IsBest P (storedAfter none (visit P k [] (total P + 1)))
-    unfolding visit storedAfter
-    walked zero l = record {
-      feasible = none-feasible;
-      least = λ q f. rw (same q (f .whole)) (le-refl (rejected P q));
-      first = λ q f e. inl (same q (f .whole));
-    }
-      where
-        empty : (p q : List ℕ) → length p ≡ 0 → length q ≡ 0 → p ≡ q
-        empty [] [] e f = refl
-        empty [] (x ∷ q) e f = absurd (omega arith)
-        empty (x ∷ p) q e f = absurd (omega arith)
+    -- a step to no choices would change nothing
+    root : (k : ℕ) → length (P .demands) ≡ k
+        → storedAfter none (visit P k [] (total P + 1)) ≡ storedAfter none (stepInto k [] ∷ visit P k [] (total P + 1))
+    unfolding visit stepInto storedAfter
+    root zero l = rw l
+    root (suc k) l = refl
 
-        same : (q : List ℕ) → length q ≡ length (P .demands) → none ≡ q
-        same q e = empty none q (none-feasible .whole ∙ l) (e ∙ l)
-    walked (suc k) l = go (leaves-settled (Under P [] b) P b none t (visit-sound P (suc k) [] b (omega arith) start))
-      where
-        b : ℕ
-        b = total P + 1
-
-        t : List Step
-        t = visit P (suc k) [] b
-
-        small : (q : List ℕ) → rejected P q ≤ total P
-        small q = demandOn-le-sum 0 (P .demands) q
-
-        covers : Covers P [] (boundAfter P b t) (storedAfter none t)
-        covers = visit-covers P redundant k [] b none (omega arith) start (λ r f e. absurd (omega (arith, small r)))
-
-        go : Settled (Under P [] b) P b none t → IsBest P (storedAfter none t)
-        go (inl e) = absurd (omega (arith, covers .least none none-feasible, small none))
-        go (inr u) = record {
-          feasible = u .0 .feasible;
-          least = λ q f. omega (arith, covers .least q f, u .1);
-          first = λ q f e. covers .first q f (e ∙ sym (u .1));
-        }
-
+    -- the complete walk
     pub stored-best : (limit : ℕ) → length (trace P) ≤ limit → IsBest P (stored P limit)
     unfolding stored trace
-    stored-best limit h = rw (take-all limit (trace P) h) (walked (length (P .demands)) refl)
+    stored-best limit h = record {
+      feasible = stored-feasible limit;
+      least = λ x g. omega (arith, beaten x g, s .bound);
+      first = λ x g e. s .first x g (omega (arith, beaten (stored P limit) (stored-feasible limit), s .bound));
+    }
+      where
+        small : (x : List ℕ) → rejected P x ≤ total P
+        small x = demandOn-le-sum 0 (P .demands) x
+
+        b : ℕ
+        b = boundAfter P (total P + 1) (stepInto (length (P .demands)) [] ∷ trace P)
+
+        s : Kept P (λ x. ⊥) b (stored P limit)
+        s = rw (take-all limit (trace P) h, root (length (P .demands)) refl)
+            (deep P redundant (length (P .demands)) (λ x. ⊥) [] (λ r x y. absurd y) (omega arith) (total P + 1) none
+            (omega (arith, small [])) (record {
+              bound = omega (arith, small none);
+              first = λ x g e. absurd (omega (arith, small x));
+              left = λ x g e. inl (x, refl);
+            }))
+
+        beaten : (x : List ℕ) → Feasible P x → b ≤ rejected P x
+        beaten x g = let m : ¬ (rejected P x < b) = s .left x g in omega arith
 
 -- With the least rejected demand, nothing is rejected exactly if a full placement exists.
 pub full-iff : (P : Problem) → ((k : ℕ) → k < length (P .demands) → 1 ≤ getD (P .demands) k 0)

@@ -1,23 +1,24 @@
 -- The order of choices and of placements.
-use Prim.Native.Nat.{ℕ, zero, suc, _+_, _≤_, _<_}
-use native.Mathlib.Nat.{le-antisymm}
+use Prim.Native.Nat.{ℕ, zero, suc, _+_, _≤_, _<_, zero-le}
+use native.Mathlib.Nat.{le-refl, le-antisymm, eq-or-lt-of-le}
+use native.Mathlib.Numerals.{add-one}
 use native.Mathlib.Omega.{arith}
-use mathlib.Core.Path.{_≡_, refl, sym}
-use native.Mathlib.Decide.{decLe}
-use mathlib.Core.List.{head-eq-of-cons-eq, tail-eq-of-cons-eq, List·Memᴰ·not-nil, List·Memᴰ·cases-cons, List·Memᴰ·head, List·Memᴰ·tail}
-use mathlib.Core.List.{List, [], _∷_, _++_, List·Memᴰ, List·Memᴰ·append-cases, List·Memᴰ·eq-of-singleton, Memᴰ·append-left, Memᴰ·append-right}
-use mathlib.Core.Logic.{_⊎_, inl, inr}
+use mathlib.Core.Path.{_≡_, refl, sym, ap, _∙_}
+use mathlib.Core.List.{List, [], _∷_, _++_, head-eq-of-cons-eq, tail-eq-of-cons-eq}
+use mathlib.Core.Logic.{⊎-elim}
+use lib.Dec.{eqb}
+use lib.ListN.{length, getD, length-append, List·getD-append}
+use lib.Seq.{getD-append-seam}
+use borrow.Author.Tests.{ne-eqb}
+use Rattle.numbers.proofs.BoolLaws.{cond-both}
 use Rattle.allocation.specs.Placement.{Problem, rejected}
 use Rattle.allocation.specs.Best.{Earlier, core-core, core-none, Before, here, there, BestBy}
 use Rattle.allocation.specs.TableOrder.{BestPlan}
-use Rattle.allocation.specs.Walk.{upFrom, choices}
+use Rattle.allocation.specs.Walk.{upFrom, choices, triedBy}
 
 earlier-ne : {c d : ℕ} → Earlier c d → c ≡ d → ⊥
 earlier-ne (core-core h l) q = omega arith
 earlier-ne (core-none h) q = omega arith
-
-pub earlier-irrefl : {c : ℕ} → Earlier c c → ⊥
-earlier-irrefl e = earlier-ne e refl
 
 pub earlier-trans : {a b c : ℕ} → Earlier a b → Earlier b c → Earlier a c
 earlier-trans (core-core {c = a} h l) (core-core {d = d} k n) = core-core {c = a} {d = d} h (omega arith)
@@ -25,12 +26,9 @@ earlier-trans (core-core h l) (core-none k) = core-none h
 earlier-trans (core-none h) (core-core k n) = absurd (omega arith)
 earlier-trans (core-none h) (core-none k) = core-none h
 
-before-ne : {p q : List ℕ} → Before p q → p ≡ q → ⊥
+pub before-ne : {p q : List ℕ} → Before p q → p ≡ q → ⊥
 before-ne (here e) q = earlier-ne e (head-eq-of-cons-eq q)
 before-ne (there b) q = before-ne b (tail-eq-of-cons-eq q)
-
-pub before-irrefl : {p : List ℕ} → Before p p → ⊥
-before-irrefl b = before-ne b refl
 
 pub before-trans : {p q r : List ℕ} → Before p q → Before q r → Before p r
 before-trans (here e) (here f) = here (earlier-trans e f)
@@ -44,78 +42,71 @@ before-at [] q r e = here e
 before-at (x ∷ p) q r e = there (before-at p q r e)
 
 pub before-asym : {p q : List ℕ} → Before p q → Before q p → ⊥
-before-asym b c = before-irrefl (before-trans b c)
+before-asym b c = before-ne (before-trans b c) refl
 
 -- there is one best placement at most
 pub best-unique : {R : List ℕ → List ℕ → Type 0} → ((p q : List ℕ) → R p q → R q p → ⊥)
     → (P : Problem) (p q : List ℕ) → BestBy R P p → BestBy R P q → p ≡ q
-best-unique {R} asym P p q a b = go (a .first q (b .feasible) (sym same)) (b .first p (a .feasible) same)
+best-unique asym P p q a b =
+    ⊎-elim (λ e. e) (λ h. ⊎-elim sym (λ k. absurd (asym p q h k)) (b .first p (a .feasible) same))
+    (a .first q (b .feasible) (sym same))
   where
     same : rejected P p ≡ rejected P q
     same = le-antisymm (a .least q (b .feasible)) (b .least p (a .feasible))
 
-    go : (p ≡ q) ⊎ R p q → (q ≡ p) ⊎ R q p → p ≡ q
-    go (inl e) k = e
-    go (inr h) (inl e) = sym e
-    go (inr h) (inr k) = absurd (asym p q h k)
-
 pub bestPlan-unique : (T : Problem) (order p q : List ℕ) → BestPlan T order p → BestPlan T order q → p ≡ q
 bestPlan-unique T order p q = best-unique (λ r s. before-asym) T p q
 
--- a list of choices in which each comes earlier than those after it
-pub data Ordered : List ℕ → Type 0 where
-  done : Ordered []
-  more : {c : ℕ} {cs : List ℕ} → ((d : ℕ) → List·Memᴰ d cs → Earlier c d) → Ordered cs → Ordered (c ∷ cs)
+-- ---- the choices by number
 
-pub member-from : (k n d : ℕ) → List·Memᴰ d (upFrom k n) → k ≤ d
+pub length-upFrom : (k n : ℕ) → length (upFrom k n) ≡ n
 unfolding upFrom
-member-from k zero d m = absurd (List·Memᴰ·not-nil m)
-member-from k (suc n) d m = go (λ m′. member-from (suc k) n d m′) (List·Memᴰ·cases-cons m)
-  where
-    go : (List·Memᴰ d (upFrom (suc k) n) → suc k ≤ d) → (d ≡ k) ⊎ List·Memᴰ d (upFrom (suc k) n) → k ≤ d
-    go rest (inl e) = omega arith
-    go rest (inr m′) = omega (arith, rest m′)
+length-upFrom k zero = refl
+length-upFrom k (suc n) = ap suc (length-upFrom (suc k) n)
 
-pub member-below : (k n d : ℕ) → List·Memᴰ d (upFrom k n) → d < k + n
+pub getD-upFrom : (k n j : ℕ) → j < n → getD (upFrom k n) j 0 ≡ k + j
 unfolding upFrom
-member-below k zero d m = absurd (List·Memᴰ·not-nil m)
-member-below k (suc n) d m = go (λ m′. member-below (suc k) n d m′) (List·Memᴰ·cases-cons m)
-  where
-    go : (List·Memᴰ d (upFrom (suc k) n) → d < suc k + n) → (d ≡ k) ⊎ List·Memᴰ d (upFrom (suc k) n) → d < k + suc n
-    go rest (inl e) = omega arith
-    go rest (inr m′) = omega (arith, rest m′)
+getD-upFrom k zero j h = absurd (omega arith)
+getD-upFrom k (suc n) zero h = omega arith
+getD-upFrom k (suc n) (suc j) h = omega (arith, getD-upFrom (suc k) n j (omega arith))
 
-pub from-member : (k n d : ℕ) → k ≤ d → d < k + n → List·Memᴰ d (upFrom k n)
-unfolding upFrom
-from-member k zero d h l = absurd (omega arith)
-from-member k (suc n) d h l = go (λ h′. from-member (suc k) n d h′ (omega arith)) (decLe (suc k) d)
-  where
-    go : (suc k ≤ d → List·Memᴰ d (upFrom (suc k) n)) → Dec (suc k ≤ d) → List·Memᴰ d (k ∷ upFrom (suc k) n)
-    go rest (yes h′) = List·Memᴰ·tail (rest h′)
-    go rest (no h′) = let e : d ≡ k = omega arith in List·Memᴰ·head e
+pub length-choices : (m : ℕ) → length (choices m) ≡ m + 1
+unfolding choices
+length-choices m = length-append (upFrom 1 m) (0 ∷ []) ∙ ap (λ (n : ℕ). n + 1) (length-upFrom 1 m)
 
-ordered-from : (k n : ℕ) → 1 ≤ k → Ordered (upFrom k n ++ (0 ∷ []))
-unfolding upFrom
-ordered-from k zero h = more (λ d m. absurd (List·Memᴰ·not-nil m)) done
-ordered-from k (suc n) h = more (λ d m. go d (List·Memᴰ·append-cases (upFrom (suc k) n) m)) (ordered-from (suc k) n (omega arith))
-  where
-    go : (d : ℕ) → List·Memᴰ d (upFrom (suc k) n) ⊎ List·Memᴰ d (0 ∷ []) → Earlier k d
-    go d (inl m) = core-core h (member-from (suc k) n d m)
-    go d (inr m) = rw (List·Memᴰ·eq-of-singleton m) (core-none h)
+-- the cores from 1 upward, then 0
+pub choice-core : (m j : ℕ) → j < m → getD (choices m) j 0 ≡ suc j
+unfolding choices
+choice-core m j h =
+    List·getD-append (upFrom 1 m) (0 ∷ []) 0 j (omega (arith, length-upFrom 1 m)) ∙ omega (arith, getD-upFrom 1 m j h)
+
+pub choice-none : (m : ℕ) → getD (choices m) m 0 ≡ 0
+unfolding choices
+choice-none m = ap (λ (j : ℕ). getD (choices m) j 0) (sym (length-upFrom 1 m)) ∙ getD-append-seam (upFrom 1 m) 0 [] 0
+
+pub choice-le : (m j : ℕ) → j ≤ m → getD (choices m) j 0 ≤ m
+choice-le m j h =
+    ⊎-elim (λ (e : j ≡ m). rw (e, choice-none m) zero-le)
+    (λ (l : j < m). omega (arith, choice-core m j l)) (eq-or-lt-of-le h)
+
+pub tried-by-choice : (m j : ℕ) → j ≤ m → triedBy m (getD (choices m) j 0) ≡ suc j
+unfolding triedBy
+tried-by-choice m j h =
+    ⊎-elim (λ (e : j ≡ m). rw (e, choice-none m) (add-one m))
+    (λ (l : j < m). rw (choice-core m j l, ne-eqb (suc j) 0 (λ e. omega arith))) (eq-or-lt-of-le h)
+
+pub tried-by-le : (m c : ℕ) → c ≤ m → triedBy m c ≤ m + 1
+unfolding triedBy
+tried-by-le m c h = cond-both (λ x. x ≤ m + 1) (eqb c 0) (m + 1) c (le-refl (m + 1)) (omega arith)
+
+-- each choice comes earlier than those after it
+abbrev pub Ordered : List ℕ → Type 0
+Ordered cs = (i j : ℕ) → i < j → j < length cs → Earlier (getD cs i 0) (getD cs j 0)
 
 pub choices-ordered : (m : ℕ) → Ordered (choices m)
-unfolding choices
-choices-ordered m = ordered-from 1 m (omega arith)
-
-pub choices-all : (m d : ℕ) → d ≤ m → List·Memᴰ d (choices m)
-unfolding choices
-choices-all m zero h = Memᴰ·append-right (upFrom 1 m) (List·Memᴰ·head refl)
-choices-all m (suc d) h = Memᴰ·append-left (0 ∷ []) (from-member 1 m (suc d) (omega arith) (omega arith))
-
-pub choices-le : (m d : ℕ) → List·Memᴰ d (choices m) → d ≤ m
-unfolding choices
-choices-le m d h = go (List·Memᴰ·append-cases (upFrom 1 m) h)
-  where
-    go : List·Memᴰ d (upFrom 1 m) ⊎ List·Memᴰ d (0 ∷ []) → d ≤ m
-    go (inl i) = omega (arith, member-below 1 m d i)
-    go (inr i) = let e = List·Memᴰ·eq-of-singleton i in omega arith
+choices-ordered m i j h l =
+    let k : j ≤ m = omega (arith, length-choices m) in
+    rw (choice-core m i (omega arith))
+    (⊎-elim (λ (e : j ≡ m). rw (e, choice-none m) (core-none {c = suc i} (omega arith)))
+    (λ (n : j < m). rw (choice-core m j n) (core-core {c = suc i} {d = suc j} (omega arith) (omega arith)))
+    (eq-or-lt-of-le k))

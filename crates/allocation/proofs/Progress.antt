@@ -5,12 +5,13 @@ use native.Mathlib.Omega.{arith}
 use mathlib.Core.Path.{_≡_, refl, sym, ap, _∙_}
 use mathlib.Core.Bool.{Bool, true, false}
 use mathlib.Core.List.{List, [], _∷_, _++_, append-nil}
+use mathlib.Core.Logic.{dite}
 use lib.Dec.{ltb}
 use lib.ListN.{length, getD, take, set, replicate, length-append}
 use lib.Seq.{append-snoc, take-all, take-at}
 use borrow.Author.Tests.{lt-ltb, le-ltb}
 use Rattle.allocation.specs.Placement.{Problem, total, rejected}
-use Rattle.allocation.specs.Walk.{Step, inner, leaf, boundAfter, storedAfter, entered, choices, triedBy, trace, stored, answer, WalkAnswer}
+use Rattle.allocation.specs.Walk.{Step, inner, boundAfter, storedAfter, entered, choices, triedBy, trace, stored, answer, WalkAnswer}
 use Rattle.allocation.proofs.Steps.{boundAfter-append, storedAfter-append}
 use Rattle.allocation.proofs.Remaining.{remaining, remaining-start, remaining-skip, remaining-leaf, remaining-descend, remaining-back, remaining-end, remaining-take}
 
@@ -45,34 +46,31 @@ module _ (P : Problem) where
     pub progress-take : (path′ : List ℕ) → take d path ≡ take d path′ → Progress P path′ d j b best steps
     progress-take path′ e = same (remaining-take P path path′ d j b e)
 
-    -- the next step is s, and u remains after it
-    next : (s : Step) (u : List Step) → remaining P path d j b ≡ s ∷ u → trace P ≡ (r .made ++ (s ∷ [])) ++ u
-    next s u e = r .whole ∙ ap (λ (t : List Step). r .made ++ t) e ∙ sym (append-snoc (r .made) s u)
+    -- the next step, s, is made
+    stepped : (s : Step) {path′ : List ℕ} {d′ j′ b′ : ℕ} {best′ : List ℕ}
+        → remaining P path d j b ≡ s ∷ remaining P path′ d′ j′ b′
+        → boundAfter P b (s ∷ []) ≡ b′ → storedAfter best (s ∷ []) ≡ best′ → Progress P path′ d′ j′ b′ best′ (suc steps)
+    stepped s e f g = record {
+      made = r .made ++ (s ∷ []);
+      whole = r .whole ∙ ap (λ (t : List Step). r .made ++ t) e ∙ sym (append-snoc (r .made) s _);
+      counts = omega (arith, length-append (r .made) (s ∷ []), r .counts);
+      bounds = rw (boundAfter-append, r .bounds) f;
+      stores = rw (storedAfter-append, r .stores) g;
+    }
+
+    -- the answer, where the limit leaves the steps made
+    answers : (limit : ℕ) {n : ℕ} {spent : Bool} → take limit (trace P) ≡ r .made → min limit (length (trace P)) ≡ n
+        → ltb limit (length (trace P)) ≡ spent → answer P limit ≡ answered best n spent
+    unfolding answer stored
+    answers limit e f g = rw (e, r .stores, f, g)
 
     -- the limit is reached, and the walk would go on
-    pub progress-spent : (limit : ℕ) → steps ≡ limit → (s : Step) (u : List Step) → remaining P path d j b ≡ s ∷ u
+    progress-spent : (limit : ℕ) → steps ≡ limit → (s : Step) (u : List Step) → remaining P path d j b ≡ s ∷ u
         → answer P limit ≡ answered best limit true
-    unfolding answer stored
     progress-spent limit e s u q =
         let w : trace P ≡ r .made ++ (s ∷ u) = r .whole ∙ ap (λ (l : List Step). r .made ++ l) q in
         let l : limit < length (trace P) = omega (arith, ap length w, length-append (r .made) (s ∷ u), r .counts) in
-        let p : stored P limit ≡ best =
-        ap (λ (l : List Step). storedAfter (replicate (length (P .demands)) 0) l) (ap (take limit) w ∙ take-at (r .made) (s ∷ u) limit (r .counts ∙ e)) ∙ r .stores in
-        let v : ltb limit (length (trace P)) ≡ true = lt-ltb limit (length (trace P)) l in
-        let n : min limit (length (trace P)) ≡ limit = omega arith in
-        λ i. record { placement = p i; rejected = rejected P (p i); steps = n i; spent = v i }
-
-    -- nothing remains
-    pub progress-end : (limit : ℕ) → steps ≤ limit → remaining P path d j b ≡ [] → answer P limit ≡ answered best steps false
-    unfolding answer stored
-    progress-end limit e q =
-        let w : trace P ≡ r .made = r .whole ∙ ap (λ (l : List Step). r .made ++ l) q ∙ append-nil (r .made) in
-        let k : length (trace P) ≡ steps = ap length w ∙ r .counts in
-        let p : stored P limit ≡ best =
-        ap (λ (l : List Step). storedAfter (replicate (length (P .demands)) 0) l) (take-all limit (trace P) (omega arith) ∙ w) ∙ r .stores in
-        let v : ltb limit (length (trace P)) ≡ false = le-ltb limit (length (trace P)) (omega arith) in
-        let n : min limit (length (trace P)) ≡ steps = omega arith in
-        λ i. record { placement = p i; rejected = rejected P (p i); steps = n i; spent = v i }
+        answers limit (ap (take limit) w ∙ take-at (r .made) (s ∷ u) limit (r .counts ∙ e)) (omega arith) (lt-ltb limit _ l)
 
     -- choice number j of task d
     module _ (within : j ≤ P .cores) where
@@ -87,40 +85,28 @@ module _ (P : Problem) where
       pub progress-leaf : suc d ≡ length (P .demands) → entered P (take d path) c b ≡ true
           → Progress P path d (suc j) (rejected P (take d path ++ (c ∷ []))) (take d path ++ (c ∷ [])) (suc steps)
       unfolding boundAfter storedAfter
-      progress-leaf l e =
-          let s = leaf (take d path ++ (c ∷ [])) in
-          record {
-            made = r .made ++ (s ∷ []);
-            whole = next s _ (remaining-leaf P path d j b within l e);
-            counts = omega (arith, length-append (r .made) (s ∷ []), r .counts);
-            bounds = boundAfter-append P (total P + 1) (r .made) (s ∷ []);
-            stores = storedAfter-append _ (r .made) (s ∷ []);
-          }
+      progress-leaf l e = stepped _ (remaining-leaf P path d j b within l e) refl refl
 
       -- it is entered, and more tasks follow
       pub progress-descend : d < length path → suc d < length (P .demands) → entered P (take d path) c b ≡ true
           → Progress P (set path d c) (suc d) 0 b best (suc steps)
       unfolding boundAfter storedAfter
-      progress-descend i l e = record {
-        made = r .made ++ (inner ∷ []);
-        whole = next inner _ (remaining-descend P path d j b within i l e);
-        counts = omega (arith, length-append (r .made) (inner ∷ []), r .counts);
-        bounds = boundAfter-append P (total P + 1) (r .made) (inner ∷ []) ∙ r .bounds;
-        stores = storedAfter-append _ (r .made) (inner ∷ []) ∙ r .stores;
-      }
+      progress-descend i l e = stepped inner (remaining-descend P path d j b within i l e) refl refl
 
       -- it would be entered, and the limit is reached
       pub progress-stop : (limit : ℕ) → d < length path → d < length (P .demands) → entered P (take d path) c b ≡ true → steps ≡ limit
           → answer P limit ≡ answered best limit true
-      progress-stop limit i l e f = go (ℕ-discrete (suc d) (length (P .demands)))
-        where
-          go : Dec (suc d ≡ length (P .demands)) → answer P limit ≡ answered best limit true
-          go (yes q) = progress-spent limit f _ _ (remaining-leaf P path d j b within q e)
-          go (no q) = progress-spent limit f _ _ (remaining-descend P path d j b within i (omega arith) e)
+      progress-stop limit i l e f =
+          dite (ℕ-discrete (suc d) (length (P .demands)))
+          (λ q. progress-spent limit f _ _ (remaining-leaf P path d j b within q e))
+          (λ q. progress-spent limit f _ _ (remaining-descend P path d j b within i (omega arith) e))
 
     -- all choices of the first task have been tried
     pub progress-done : (limit : ℕ) → steps ≤ limit → d ≡ 0 → P .cores < j → answer P limit ≡ answered best steps false
-    progress-done limit e z h = progress-end limit e (rw z (remaining-end P path j b h))
+    progress-done limit e z h =
+        let w : trace P ≡ r .made = r .whole ∙ rw (z, remaining-end P path j b h) (append-nil (r .made)) in
+        let k : length (trace P) ≡ steps = ap length w ∙ r .counts in
+        answers limit (take-all limit (trace P) (omega arith) ∙ w) (omega arith) (le-ltb limit _ (omega arith))
 
   -- all choices of a later task have been tried
   pub progress-back : {path : List ℕ} {d j b : ℕ} {best : List ℕ} {steps : ℕ} → Progress P path (suc d) j b best steps → P .cores < j

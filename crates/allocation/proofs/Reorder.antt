@@ -1,17 +1,17 @@
 -- Planning order and table order: the same loads, the same feasible placements, the same best plan.
 use Prim.Native.Nat.{ℕ, _<_}
 use native.Mathlib.Omega.{arith}
-use mathlib.Core.Path.{_≡_, refl, sym, ap, _∙_}
+use mathlib.Core.Path.{_≡_, refl, sym, ap, _∙_, subst}
 use mathlib.Core.Bool.{true}
 use mathlib.Core.List.{List}
-use mathlib.Core.Logic.{_⊎_, inl, inr}
+use mathlib.Core.Logic.{⊎-map}
 use lib.ListN.{length, getD}
 use Rattle.numbers.specs.Sorting.{Permutation}
 use Rattle.numbers.specs.Reorder.{gather, position, scatter}
 use Rattle.numbers.proofs.SortingLaws.{permutation-below}
 use Rattle.numbers.proofs.ReorderLaws.{order-long, position-of, getD-gather, gather-long, scatter-long, gather-scatter, scatter-gather, demandOn-gather, demandOn-scatter}
 use Rattle.allocation.specs.Placement.{Problem, Feasible, rejected, load}
-use Rattle.allocation.specs.Best.{Before, IsBest}
+use Rattle.allocation.specs.Best.{IsBest}
 use Rattle.allocation.specs.TableOrder.{inPlanningOrder, BestPlan}
 
 module _ (T : Problem) (order : List ℕ) (perm : Permutation (length (T .demands)) order) where
@@ -43,7 +43,8 @@ module _ (T : Problem) (order : List ℕ) (perm : Permutation (length (T .demand
   feasible-back q e f = record {
     whole = e;
     core = λ t l. rw (at t l) at (f .core (position order t) (place t l));
-    permitted = λ t l i. allows t l (f .permitted (position order t) (place t l) (rw (at t l) i));
+    permitted = λ t l i. subst (λ (s : ℕ). T .permits s (getD q t 0) ≡ true) (where-is t l .1)
+        (rw (at t l) at (f .permitted (position order t) (place t l) (rw (at t l) i)));
     fits = λ c i j. rw (load-gathered c q e) at (f .fits c i j);
   }
     where
@@ -55,9 +56,6 @@ module _ (T : Problem) (order : List ℕ) (perm : Permutation (length (T .demand
 
       at : (t : ℕ) → t < length q → getD (gather order q) (position order t) 0 ≡ getD q t 0
       at t l = getD-gather order q (position order t) (where-is t l .0) ∙ ap (λ (s : ℕ). getD q s 0) (where-is t l .1)
-
-      allows : (t : ℕ) → t < length q → T .permits (getD order (position order t) 0) (getD (gather order q) (position order t) 0) ≡ true → T .permits t (getD q t 0) ≡ true
-      allows t l h = rw (at t l, where-is t l .1) at h
 
   -- a placement of every task in planning order
   module _ (p : List ℕ) (f : Feasible (inPlanningOrder T order) p) where
@@ -75,12 +73,11 @@ module _ (T : Problem) (order : List ℕ) (perm : Permutation (length (T .demand
   best-scatter p b = record {
     feasible = feasible-scatter p (b .feasible);
     least = λ q f. omega (arith, b .least (gather order q) (feasible-gather q f), rejects, load-gathered 0 q (f .whole));
-    first = λ q f e. go q f (b .first (gather order q) (feasible-gather q f) (load-gathered 0 q (f .whole) ∙ e ∙ rejects));
+    first = λ q f e.
+        ⊎-map (λ i. ap (scatter order) i ∙ scatter-gather n order perm q (f .whole))
+        (λ h. rw (gather-scatter n order perm p (feasible-long p (b .feasible))) h)
+        (b .first (gather order q) (feasible-gather q f) (load-gathered 0 q (f .whole) ∙ e ∙ rejects));
   }
     where
       rejects : rejected T (scatter order p) ≡ rejected (inPlanningOrder T order) p
       rejects = rejected-scatter p (b .feasible)
-
-      go : (q : List ℕ) → Feasible T q → (p ≡ gather order q) ⊎ Before p (gather order q) → (scatter order p ≡ q) ⊎ Before (gather order (scatter order p)) (gather order q)
-      go q f (inl e) = inl (ap (scatter order) e ∙ scatter-gather n order perm q (f .whole))
-      go q f (inr h) = inr (rw (gather-scatter n order perm p (feasible-long p (b .feasible))) h)

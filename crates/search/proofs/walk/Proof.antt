@@ -1,7 +1,7 @@
 -- What is left of the walk follows from the loops' variables; each move makes one step of it, or none.
 use Prim.Native.Nat.{_+_, _*_, _-_, _≤_}
 use mathlib.Core.Path.{_≡_, refl}
-use mathlib.Core.Bool.{false}
+use mathlib.Core.Bool.{true, false}
 use mathlib.Core.Logic.{⊎-elim}
 use native.Mathlib.Omega.{arith}
 use borrow.Author.Needs.{needs}
@@ -9,8 +9,9 @@ use lib.Dec.{eqb}
 use lib.ListN.{getD}
 use Rattle.numbers.proofs.BoolLaws.{cond-le}
 use native.Mathlib.Nat.{le-refl}
-use Rattle.search.proofs.State.{locals, Walking, walk-start, walk-done, walk-back, depth-small, choice-small, load-small, last-small, last-enough}
-use Rattle.search.proofs.Choices.{job, total-small, ranges-fixed, Entering, core-looked, none-looked, past, skips, enters, stops, stores, descends}
+use Rattle.search.proofs.State.{locals, Walking, walk-start, walk-done, walk-back, one-less, last-small, last-enough}
+use Rattle.search.proofs.State.{depth-small, load-small, Looked, choice-small, enters, skips, stops, stores, descends}
+use Rattle.search.proofs.Choices.{job, total-small, ranges-fixed, core-looked, none-looked, past}
 use Rattle.search.proofs.walk.Statement.{statement}
 use Rattle.search.proofs.walk.Tie as tie
 
@@ -34,8 +35,8 @@ abbrev μ-tasks : tie.MeasureT-tasks
 entering : (c : tie.Joined1 Inv-choices μ-choices Inv-tasks μ-tasks)
     → let a = c .before .before .before .args in
     let l = c .before .choices in
-    Entering (job (a .t1) (a .n) (a .m) (a .h) (a .limit))
-    (locals (l .path) (l .loads) (l .best) (l .rejected) (l .bound) (l .steps) (l .depth) (l .next)) (c .if1 .c)
+    Looked (job (a .t1) (a .n) (a .m) (a .h) (a .limit))
+    (locals (l .path) (l .loads) (l .best) (l .rejected) (l .bound) (l .steps) (l .depth) (l .next)) (c .if1 .c) true
 entering c =
     let l = c .before .choices in
     let e = c .before .before .before .pre .excess-is in
@@ -80,22 +81,22 @@ add-improves : tie.Need-add-improves Inv-choices μ-choices Inv-tasks μ-tasks
 add-improves c = omega (arith, load-small (c .before .before .choices .inv .0) 0)
 
 cast-last-2 : tie.Need-cast-last-2 Inv-choices μ-choices Inv-tasks μ-tasks
-cast-last-2 c = omega (arith, last-small (c .before .before .before .choices .inv .0) (c .if5 .left) refl)
+cast-last-2 c = omega (arith, last-small (c .before .before .before .choices .inv .0) (one-less (c .if5 .left)) refl)
 
 with-less-requires : tie.Need-with-less-requires Inv-choices μ-choices Inv-tasks μ-tasks
 with-less-requires c κs =
     let s = c .before .before .before .choices .inv .0 in
-    (last-small s (c .if5 .left) refl, last-enough s (c .if5 .left) refl)
+    (last-small s (one-less (c .if5 .left)) refl, last-enough s (one-less (c .if5 .left)) refl)
 
 tasks-again : tie.Need-tasks-again Inv-choices μ-choices Inv-tasks μ-tasks
 tasks-again c =
     let g = c .before .before .before in
-    (walk-back (none-left g) (c .before .before .if5 .left) refl (omega arith) (c .before .with-less .ensures) (c .tried-by .ensures), g .before .before .choices .inv .3)
+    let f = one-less (c .before .before .if5 .left) in
+    (walk-back (none-left g) f refl (omega arith) (c .before .with-less .ensures) (c .tried-by .ensures), g .before .before .choices .inv .3)
 
 cast-with-choice : tie.Need-cast-with-choice Inv-choices μ-choices Inv-tasks μ-tasks
 cast-with-choice c =
-    let v = entering (c .before .before) in
-    omega (arith, choice-small (v .state) (v .within) (v .choice-is))
+    omega (arith, choice-small (entering (c .before .before)))
 
 with-choice-requires : tie.Need-with-choice-requires Inv-choices μ-choices Inv-tasks μ-tasks
 with-choice-requires c κs = depth-small (entering (c .before .before) .state)
@@ -103,7 +104,7 @@ with-choice-requires c κs = depth-small (entering (c .before .before) .state)
 with-more-requires : tie.Need-with-more-requires Inv-choices μ-choices Inv-tasks μ-tasks
 with-more-requires c κs =
     let v = entering (c .before .before .before .before) in
-    (choice-small (v .state) (v .within) (v .choice-is), λ k. omega (arith, load-small (v .state) k))
+    (choice-small v, λ k. omega (arith, load-small (v .state) k))
 
 tasks-again-2 : tie.Need-tasks-again-2 Inv-choices μ-choices Inv-tasks μ-tasks
 tasks-again-2 c =
