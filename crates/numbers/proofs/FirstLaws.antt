@@ -1,12 +1,12 @@
 -- Laws of the first index at which a test holds, and the steps of a loop that looks for it.
 use Prim.Native.Nat.{ℕ, zero, suc, _+_, _-_, _≤_, _<_}
-use mathlib.Core.Path.{_≡_, refl, sym, _∙_, ap}
-use mathlib.Core.Bool.{Bool, true, false, true≢false}
-use mathlib.Core.Logic.{_⊎_, inl, inr}
+use mathlib.Core.Path.{_≡_, sym, _∙_, ap}
+use mathlib.Core.Bool.{Bool, true, false, cond, true≢false}
+use mathlib.Core.Logic.{_≢_, ⊎-elim}
 use native.Mathlib.Omega.{arith}
-use native.Mathlib.Nat.{eq-or-lt-of-le}
-use native.Mathlib.Decide.{decLt}
 use Rattle.numbers.specs.First.{firstFrom, first, IsFirst}
+use Rattle.numbers.proofs.BoolLaws.{true-or-false}
+use Rattle.numbers.proofs.BoundLaws.{not-unequal}
 
 -- what is left of the search at i
 unfoldable rest : (ℕ → Bool) → ℕ → ℕ → ℕ
@@ -21,109 +21,80 @@ pub seek-start : (p : ℕ → Bool) (n : ℕ) → Seeking p n 0
 unfolding first rest
 seek-start p n = record { top = omega arith; left = ap (firstFrom p 0) (omega arith) }
 
-module _ {p : ℕ → Bool} {n i : ℕ} (s : Seeking p n i) where
-  seek-next : i < n → p i ≡ false → Seeking p n (i + 1)
+module _ {p : ℕ → Bool} {n i : ℕ} where
+  seek-next : Seeking p n i → i < n → first p n ≡ cond (p i) (i + 1) (rest p n (i + 1))
   unfolding rest firstFrom
-  seek-next h e =
-      let q : n - i ≡ suc (n - (i + 1)) = omega arith in
-      let r : rest p n i ≡ rest p n (i + 1) = rw (q, e) in
-      record { top = omega arith; left = s .left ∙ r }
+  seek-next s h = let q : n - i ≡ suc (n - (i + 1)) = omega arith in rw q at (s .left)
 
-  seek-found : i < n → p i ≡ true → i + 1 ≡ first p n
+  -- the test's result as a caller has it
+  pub looked-on : {r : Bool} → Seeking p n i → i < n → r ≡ p i → r ≡ false → Seeking p n (i + 1)
+  looked-on s h e f = record { top = omega arith; left = seek-next s h ∙ rw (← e, f) }
+
+  pub looked-found : {r : Bool} → Seeking p n i → i < n → r ≡ p i → r ≡ true → i + 1 ≡ first p n
+  looked-found s h e f = sym (seek-next s h ∙ rw (← e, f))
+
+  pub seek-none : Seeking p n i → n ≤ i → 0 ≡ first p n
   unfolding rest firstFrom
-  seek-found h e =
-      let q : n - i ≡ suc (n - (i + 1)) = omega arith in
-      let r : rest p n i ≡ i + 1 = rw (q, e) in
-      sym (s .left ∙ r)
+  seek-none s h = let q : n - i ≡ 0 = omega arith in sym (rw q at (s .left))
 
-  pub seek-none : n ≤ i → 0 ≡ first p n
-  unfolding rest firstFrom
-  seek-none h =
-      let q : n - i ≡ 0 = omega arith in
-      let r : rest p n i ≡ 0 = rw q in
-      sym (s .left ∙ r)
-
--- The same, with the test's result as a caller has it.
-module _ {p : ℕ → Bool} {n i : ℕ} {r : Bool} where
-  pub looked-on : Seeking p n i → i < n → r ≡ p i → r ≡ false → Seeking p n (i + 1)
-  looked-on s h e f = seek-next s h (sym e ∙ f)
-
-  pub looked-found : Seeking p n i → i < n → r ≡ p i → r ≡ true → i + 1 ≡ first p n
-  looked-found s h e f = seek-found s h (sym e ∙ f)
-
--- Where `first` is 0, the test holds at no index below n.
-from-zero : (p : ℕ → Bool) (i m : ℕ) → firstFrom p i m ≡ 0 → (k : ℕ) → i ≤ k → k < i + m → p k ≡ false
+-- The test holds at what is found,
+from-holds : (p : ℕ → Bool) (i m k : ℕ) → firstFrom p i m ≡ suc k → (k < i + m) × (p k ≡ true)
 unfolding firstFrom
-from-zero p i zero e k h g = absurd (omega arith)
-from-zero p i (suc m) e k h g = go (p i) refl (from-zero p (i + 1) m)
-  where
-    go : (b : Bool) → p i ≡ b → (firstFrom p (i + 1) m ≡ 0 → (j : ℕ) → i + 1 ≤ j → j < i + 1 + m → p j ≡ false) → p k ≡ false
-    go true q ih = absurd (let z : i + 1 ≡ 0 = rw q at e in omega arith)
-    go false q ih = at (eq-or-lt-of-le h)
-      where
-        at : (i ≡ k) ⊎ (i < k) → p k ≡ false
-        at (inl d) = rw (← d) q
-        at (inr l) = ih (rw q at e) k (omega arith) (omega arith)
+from-holds p i zero k e = absurd (let z : 0 ≡ suc k = e in omega arith)
+from-holds p i (suc m) k e =
+    ⊎-elim
+    (λ q. let z : i + 1 ≡ suc k = rw q at e in let d : i ≡ k = omega arith in (omega arith, rw d at q))
+    (λ q. let r = from-holds p (i + 1) m k (rw q at e) in (omega arith, r .1))
+    (true-or-false (p i))
 
-pub first-zero : (p : ℕ → Bool) (n : ℕ) → first p n ≡ 0 → (k : ℕ) → k < n → p k ≡ false
-unfolding first
-first-zero p n e k h = from-zero p 0 n e k (omega arith) (omega arith)
-
--- Where it is k + 1, k is the first.
-from-is : (p : ℕ → Bool) (i m k : ℕ) → firstFrom p i m ≡ suc k
-    → (i ≤ k) × (k < i + m) × (p k ≡ true) × ((j : ℕ) → i ≤ j → j < k → p j ≡ false)
+-- and wherever it holds, something is found that comes no later.
+from-least : (p : ℕ → Bool) (i m k : ℕ) → p k ≡ true → i ≤ k → k < i + m → (0 < firstFrom p i m) × (firstFrom p i m ≤ suc k)
 unfolding firstFrom
-from-is p i zero k e = absurd (let z : 0 ≡ suc k = e in omega arith)
-from-is p i (suc m) k e = go (p i) refl (from-is p (i + 1) m k)
-  where
-    go : (b : Bool) → p i ≡ b
-        → (firstFrom p (i + 1) m ≡ suc k → (i + 1 ≤ k) × (k < i + 1 + m) × (p k ≡ true) × ((j : ℕ) → i + 1 ≤ j → j < k → p j ≡ false))
-        → (i ≤ k) × (k < i + suc m) × (p k ≡ true) × ((j : ℕ) → i ≤ j → j < k → p j ≡ false)
-    go true q ih =
-        let z : i + 1 ≡ suc k = rw q at e in
-        let d : i ≡ k = omega arith in
-        (omega arith, omega arith, rw d at q, λ j a b. absurd (omega arith))
-    go false q ih =
-        let r = ih (rw q at e) in
-        (omega arith, omega arith, r .2, λ j a b. at j b (eq-or-lt-of-le a) (r .3 j))
-      where
-        at : (j : ℕ) → j < k → (i ≡ j) ⊎ (i < j) → (i + 1 ≤ j → j < k → p j ≡ false) → p j ≡ false
-        at j b (inl d) u = rw (← d) q
-        at j b (inr l) u = u (omega arith) b
+from-least p i zero k t h g = absurd (omega arith)
+from-least p i (suc m) k t h g =
+    ⊎-elim
+    (λ q. rw q (omega arith, omega arith))
+    (λ q. let ne : i ≢ k = λ d. true≢false (sym t ∙ rw (← d) q) in
+    rw q (from-least p (i + 1) m k t (omega arith) (omega arith)))
+    (true-or-false (p i))
+
+-- there is one first index at most
+pub isFirst-unique : {P : ℕ → Type 0} {n j k : ℕ} → IsFirst P n j → IsFirst P n k → j ≡ k
+isFirst-unique {j = j} {k} a b =
+    let f : ¬ (j < k) = λ h. b .none j h (a .here) in
+    let g : ¬ (k < j) = λ h. a .none k h (b .here) in
+    omega arith
 
 -- an index at which a test holds
 abbrev pub Holds : (ℕ → Bool) → ℕ → Type 0
 Holds p k = p k ≡ true
 
-pub first-is : (p : ℕ → Bool) (n k : ℕ) → first p n ≡ suc k → IsFirst (Holds p) n k
-unfolding first
-first-is p n k e =
-    let r = from-is p 0 n k e in
-    record { below = omega arith; here = r .2; none = λ j h t. true≢false (sym t ∙ r .3 j (omega arith) h) }
+module _ (p : ℕ → Bool) (n : ℕ) where
+  first-least : (k : ℕ) → k < n → p k ≡ true → (0 < first p n) × (first p n ≤ suc k)
+  unfolding first
+  first-least k h t = from-least p 0 n k t (omega arith) (omega arith)
 
--- The other way round.
-pub first-clear : (p : ℕ → Bool) (n : ℕ) → ((k : ℕ) → k < n → p k ≡ false) → first p n ≡ 0
-first-clear p n h = go (first p n) refl
-  where
-    go : (w : ℕ) → first p n ≡ w → first p n ≡ 0
-    go zero e = e
-    go (suc k) e = let i = first-is p n k e in absurd (true≢false (sym (i .here) ∙ h k (i .below)))
+  -- Where `first` is 0, the test holds at no index below n.
+  pub first-zero : first p n ≡ 0 → (k : ℕ) → k < n → p k ≡ false
+  first-zero e k h = ⊎-elim (λ t. absurd (omega (arith, first-least k h t))) (λ f. f) (true-or-false (p k))
 
--- there is one first index at most
-pub isFirst-unique : {P : ℕ → Type 0} {n j k : ℕ} → IsFirst P n j → IsFirst P n k → j ≡ k
-isFirst-unique {P} {n} {j} {k} a b = go (decLt j k) (decLt k j)
-  where
-    go : Dec (j < k) → Dec (k < j) → j ≡ k
-    go (yes h) g = absurd (b .none j h (a .here))
-    go (no h) (yes g) = absurd (a .none k g (b .here))
-    go (no h) (no g) = omega arith
+  -- Where it is k + 1, k is the first.
+  pub first-is : (k : ℕ) → first p n ≡ suc k → IsFirst (Holds p) n k
+  unfolding first
+  first-is k e =
+      let r = from-holds p 0 n k e in
+      record { below = omega arith; here = r .1; none = λ j h t. omega (arith, first-least j (omega arith) t) }
 
-pub first-unique : (p : ℕ → Bool) (n k : ℕ) → IsFirst (Holds p) n k → first p n ≡ suc k
-first-unique p n k i = go (first p n) refl
-  where
-    go : (w : ℕ) → first p n ≡ w → first p n ≡ suc k
-    go zero e = absurd (true≢false (sym (i .here) ∙ first-zero p n e k (i .below)))
-    go (suc j) e = e ∙ ap suc (isFirst-unique (first-is p n j e) i)
+  -- The other way round.
+  pub first-clear : ((k : ℕ) → k < n → p k ≡ false) → first p n ≡ 0
+  first-clear h = not-unequal (first p n) 0
+      (λ e. let i = first-is (first p n - 1) (omega arith) in true≢false (sym (i .here) ∙ h _ (i .below)))
+
+  pub first-unique : (k : ℕ) → IsFirst (Holds p) n k → first p n ≡ suc k
+  first-unique k i =
+      let l = first-least k (i .below) (i .here) in
+      let r = first-is (first p n - 1) (omega arith) in
+      omega (arith, isFirst-unique r i)
 
 -- a test and the statement that it decides
 pub isFirst-map : {P Q : ℕ → Type 0} {n k : ℕ} → ((j : ℕ) → P j → Q j) → ((j : ℕ) → Q j → P j) → IsFirst P n k → IsFirst Q n k

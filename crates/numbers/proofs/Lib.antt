@@ -9,4 +9,3 @@ pub mod LoadLaws
 pub mod InsertLaws
 pub mod SortingLaws
 pub mod ReorderLaws
-pub mod Width

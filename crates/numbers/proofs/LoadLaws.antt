@@ -1,19 +1,19 @@
 -- Laws of the demand on a choice.
 use Prim.Native.Nat.{ℕ, zero, suc, _+_, _*_, _≤_, _<_, zero-le}
 use native.Mathlib.Nat.{le-refl}
-use native.Mathlib.Decide.{ℕ-discrete}
 use native.Mathlib.Omega.{arith}
 use mathlib.Core.Path.{_≡_, refl, sym, ap, _∙_}
-use mathlib.Core.Bool.{Bool, cond, _&&_}
+use mathlib.Core.Bool.{cond, _&&_}
 use mathlib.Core.List.{List, [], _∷_, _++_}
 use mathlib.Core.Logic.{_≢_}
 use lib.Dec.{eqb, ltb, leb·suc-suc}
 use lib.ListN.{length, getD, take, replicate}
+use lib.Seq.{take-nil}
 use borrow.Author.Tests.{eq-eqb, ne-eqb, lt-ltb, le-ltb}
 use Rattle.numbers.specs.Sums.{sumOver, sumTo}
 use Rattle.numbers.specs.Loads.{demandOn, sum}
 use Rattle.numbers.proofs.BoolLaws.{cond-both, cond-le}
-use Rattle.numbers.proofs.SumLaws.{sumTo-cong, sumTo-add, sumTo-zero, sumTo-front, only, sumTo-only}
+use Rattle.numbers.proofs.SumLaws.{sumTo-bound, sumTo-add, sumTo-front, sumTo-only}
 
 -- more choices, more demand
 pub demandOn-mono : (c : ℕ) (ws p r : List ℕ) → demandOn c ws p ≤ demandOn c ws (p ++ r)
@@ -22,26 +22,24 @@ demandOn-mono c [] p r = zero-le
 demandOn-mono c (w ∷ ws) [] r = zero-le
 demandOn-mono c (w ∷ ws) (x ∷ p) r = omega (arith, demandOn-mono c ws p r)
 
+pub demandOn-none : (c : ℕ) (ws : List ℕ) → demandOn c ws [] ≡ 0
+unfolding demandOn
+demandOn-none c [] = refl
+demandOn-none c (w ∷ ws) = refl
+
 -- a further choice changes the demand on that choice alone
 pub demandOn-other : (c x : ℕ) → x ≢ c → (ws p : List ℕ) → demandOn c ws (p ++ (x ∷ [])) ≡ demandOn c ws p
 unfolding demandOn
 demandOn-other c x h [] p = refl
-demandOn-other c x h (w ∷ []) [] = rw (ne-eqb x c h)
-demandOn-other c x h (w ∷ v ∷ ws) [] = rw (ne-eqb x c h)
-demandOn-other c x h (w ∷ ws) (y ∷ p) = ap (λ (n : ℕ). cond (eqb y c) w 0 + n) (demandOn-other c x h ws p)
+demandOn-other c x h (w ∷ ws) [] = rw (ne-eqb x c h, demandOn-none c ws)
+demandOn-other c x h (w ∷ ws) (y ∷ p) = rw (demandOn-other c x h ws p)
 
 -- the next task's choice adds its demand
 pub demandOn-same : (c : ℕ) (ws p : List ℕ) → length p < length ws → demandOn c ws (p ++ (c ∷ [])) ≡ demandOn c ws p + getD ws (length p) 0
 unfolding demandOn
 demandOn-same c [] p h = absurd (omega arith)
-demandOn-same c (w ∷ []) [] h = rw (eq-eqb c c refl) (omega arith)
-demandOn-same c (w ∷ v ∷ ws) [] h = rw (eq-eqb c c refl) (omega arith)
+demandOn-same c (w ∷ ws) [] h = rw (eq-eqb c c refl, demandOn-none c ws) (omega arith)
 demandOn-same c (w ∷ ws) (y ∷ p) h = omega (arith, demandOn-same c ws p (omega arith))
-
-pub demandOn-none : (c : ℕ) (ws : List ℕ) → demandOn c ws [] ≡ 0
-unfolding demandOn
-demandOn-none c [] = refl
-demandOn-none c (w ∷ ws) = refl
 
 -- no choice has more than all the demand
 pub demandOn-le-sum : (c : ℕ) (ws p : List ℕ) → demandOn c ws p ≤ sum ws
@@ -64,8 +62,7 @@ sum-take-zero ws = refl
 
 pub sum-take-suc : (ws : List ℕ) (i : ℕ) → sum (take (suc i) ws) ≡ sum (take i ws) + getD ws i 0
 unfolding sumOver
-sum-take-suc [] zero = refl
-sum-take-suc [] (suc i) = refl
+sum-take-suc [] i = rw (take-nil i)
 sum-take-suc (w ∷ ws) zero = omega arith
 sum-take-suc (w ∷ ws) (suc i) = omega (arith, sum-take-suc ws i)
 
@@ -96,8 +93,7 @@ demandOn-take-zero c ws p = refl
 pub demandOn-take-suc : (c : ℕ) (ws p : List ℕ) (k : ℕ)
     → demandOn c (take (suc k) ws) p ≡ demandOn c (take k ws) p + cond (ltb k (length p) && eqb (getD p k 0) c) (getD ws k 0) 0
 unfolding demandOn
-demandOn-take-suc c [] p zero = cond-both (λ (n : ℕ). 0 ≡ 0 + n) (ltb 0 (length p) && eqb (getD p 0 0) c) 0 0 refl refl
-demandOn-take-suc c [] p (suc k) = cond-both (λ (n : ℕ). 0 ≡ 0 + n) (ltb (suc k) (length p) && eqb (getD p (suc k) 0) c) 0 0 refl refl
+demandOn-take-suc c [] p k = rw take-nil (cond-both (λ n. 0 ≡ 0 + n) (ltb k (length p) && eqb (getD p k 0) c) 0 0 refl refl)
 demandOn-take-suc c (w ∷ ws) [] k = rw (demandOn-none c (take k (w ∷ ws)), le-ltb k 0 zero-le)
 demandOn-take-suc c (w ∷ ws) (x ∷ p) zero = rw (lt-ltb 0 (suc (length p)) (omega arith)) (omega arith)
 demandOn-take-suc c (w ∷ ws) (x ∷ p) (suc k) = rw (leb·suc-suc (suc k) (length p)) (omega (arith, demandOn-take-suc c ws p k))
@@ -117,26 +113,15 @@ demand-listed c (w ∷ ws) (x ∷ q) e =
 
 -- ---- all the demand as a sum over choices
 
-same-test : (x k : ℕ) → eqb x k ≡ eqb k x
-same-test x k = go (ℕ-discrete x k)
-  where
-    go : Dec (x ≡ k) → eqb x k ≡ eqb k x
-    go (yes e) = rw e
-    go (no n) = ne-eqb x k n ∙ sym (ne-eqb k x (λ e. n (sym e)))
-
-one-choice : (m x w : ℕ) → x < m → sumTo (λ c. cond (eqb x c) w 0) m ≡ w
-one-choice m x w h =
-    sumTo-cong (λ c. cond (eqb x c) w 0) (only x (λ c. w)) m (λ c b. ap (λ (t : Bool). cond t w 0) (same-test x c)) ∙ sumTo-only x (λ c. w) m h
-
 -- each task's demand is on one of the choices below m
 pub sum-split : (m : ℕ) (ws p : List ℕ) → length p ≡ length ws → ((k : ℕ) → k < length p → getD p k 0 < m) → sum ws ≡ sumTo (λ c. demandOn c ws p) m
 unfolding demandOn sumOver
-sum-split m [] p e h = sym (sumTo-zero m)
+sum-split m [] p e h = omega (arith, sumTo-bound (λ c. 0) m 0 (λ k b. omega arith))
 sum-split m (w ∷ ws) [] e h = absurd (omega arith)
 sum-split m (w ∷ ws) (x ∷ p) e h =
     omega (
       arith,
       sumTo-add (λ c. cond (eqb x c) w 0) (λ c. demandOn c ws p) m,
-      one-choice m x w (h 0 (omega arith)),
+      rw (lt-ltb x m (h 0 (omega arith))) at (sumTo-only x (λ c. w) m),
       sum-split m ws p (omega arith) (λ k l. h (suc k) (omega arith)),
     )

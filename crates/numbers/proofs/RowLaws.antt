@@ -2,6 +2,7 @@
 use Prim.Native.Nat.{ℕ, zero, suc, _+_, _≤_, _<_}
 use mathlib.Core.Path.{_≡_, refl, sym, _∙_, ap}
 use mathlib.Core.List.{List}
+use mathlib.Core.Logic.{_⊎_, inl, inr, ⊎-elim, by-cases}
 use lib.ListN.{length, getD, set, take, replicate, length-set, List·getD-eq-default}
 use lib.Seq.{ext-getD, getD-set-same, getD-set-other, getD-take, length-take-le, set-out}
 use native.Mathlib.Omega.{arith}
@@ -20,6 +21,10 @@ module _ {A : Type 0} (z : A) where
   getD-tab zero f k h = absurd (omega arith)
   getD-tab (suc w) f zero h = refl
   getD-tab (suc w) f (suc k) h = getD-tab w (λ j. f (suc j)) k (omega arith)
+
+  -- lists of the same length with the same entries
+  pub by-entries : {a b : List A} {n : ℕ} → length a ≡ n → length b ≡ n → ((k : ℕ) → k < n → getD a k z ≡ getD b k z) → a ≡ b
+  by-entries {a} {b} p q h = ext-getD z a b (p ∙ sym q) (λ k l. h k (omega arith))
 
   module _ (n : ℕ) (f : ℕ → A) where
     pub upTo-below : (k : ℕ) → k < n → upTo z n f k ≡ f k
@@ -42,80 +47,61 @@ module _ {A : Type 0} (z : A) where
     unfolding row
     getD-row-above k h g = getD-tab 16 (upTo z n f) k g ∙ upTo-above k h
 
+    -- each entry is z, or that of f below n
+    row-entry : (k : ℕ) → (getD (row z n f) k z ≡ z) ⊎ ((k < n) × (getD (row z n f) k z ≡ f k))
+    unfolding row
+    row-entry k =
+        by-cases (decLt k 16)
+        (λ b. by-cases (decLt k n)
+        (λ h. inr (h, getD-tab 16 (upTo z n f) k b ∙ upTo-below k h))
+        (λ h. inl (getD-row-above k (omega arith) b)))
+        (λ b. inl (List·getD-eq-default (row z n f) z (rw length-row (omega arith))))
+
     pub row-beyond : (k : ℕ) → n ≤ k → getD (row z n f) k z ≡ z
-    row-beyond k h = at (decLt k 16)
-      where
-        at : Dec (k < 16) → getD (row z n f) k z ≡ z
-        at (yes b) = getD-row-above k h b
-        at (no b) = List·getD-eq-default (row z n f) z {n = k} (rw length-row (omega arith))
+    row-beyond k h = ⊎-elim (λ e. e) (λ r. absurd (omega arith)) (row-entry k)
 
     -- sixteen entries that are f k below n and z from there on are the row
     pub row-ext : (l : List A) → length l ≡ 16 → ((k : ℕ) → k < 16 → getD l k z ≡ upTo z n f k) → l ≡ row z n f
     unfolding row
-    row-ext l hl h =
-        ext-getD z l (tab 16 (upTo z n f)) (hl ∙ sym (length-tab 16 (upTo z n f)))
-        (λ k hk. let b : k < 16 = omega arith in h k b ∙ sym (getD-tab 16 (upTo z n f) k b))
+    row-ext l e h = by-entries e length-row (λ k b. h k b ∙ sym (getD-tab 16 (upTo z n f) k b))
 
   -- what holds of f below n and of z holds of every entry
   pub row-each : (P : A → Type 0) (n : ℕ) (f : ℕ → A) → P z → ((k : ℕ) → k < n → P (f k)) → (k : ℕ) → P (getD (row z n f) k z)
-  unfolding row
-  row-each P n f o h k = at (decLt k 16) (decLt k n)
-    where
-      at : Dec (k < 16) → Dec (k < n) → P (getD (tab 16 (upTo z n f)) k z)
-      at (yes b) (yes l) = rw (getD-tab 16 (upTo z n f) k b, upTo-below n f k l) (h k l)
-      at (yes b) (no l) = rw (getD-tab 16 (upTo z n f) k b, upTo-above n f k (omega arith)) o
-      at (no b) l = rw (List·getD-eq-default (tab 16 (upTo z n f)) z {n = k} (rw length-tab (omega arith))) o
+  row-each P n f o h k = ⊎-elim (λ e. rw e o) (λ r. rw (r .1) (h k (r .0))) (row-entry n f k)
 
   -- one entry more changes no other
   pub upTo-next : (n : ℕ) (f : ℕ → A) (k : ℕ) → (k ≡ n → ⊥) → upTo z n f k ≡ upTo z (n + 1) f k
-  upTo-next n f k ne = at (decLt k n)
-    where
-      at : Dec (k < n) → upTo z n f k ≡ upTo z (n + 1) f k
-      at (yes h) = upTo-below n f k h ∙ sym (upTo-below (n + 1) f k (omega arith))
-      at (no h) = upTo-above n f k (omega arith) ∙ sym (upTo-above (n + 1) f k (omega arith))
+  upTo-next n f k ne =
+      by-cases (decLt k n)
+      (λ h. upTo-below n f k h ∙ sym (upTo-below (n + 1) f k (omega arith)))
+      (λ h. upTo-above n f k (omega arith) ∙ sym (upTo-above (n + 1) f k (omega arith)))
 
   row-next : (n : ℕ) (f : ℕ → A) → n < 16 → set (row z n f) n (f n) ≡ row z (n + 1) f
   unfolding row
-  row-next n f hn =
+  row-next n f h =
       row-ext (n + 1) f (set (row z n f) n (f n)) (length-set (row z n f) n (f n) ∙ length-row n f)
-      (λ k hk. at k hk (ℕ-discrete k n))
-    where
-      at : (k : ℕ) → k < 16 → Dec (k ≡ n) → getD (set (row z n f) n (f n)) k z ≡ upTo z (n + 1) f k
-      at k hk (yes e) =
-          rw e
-          (getD-set-same (row z n f) n (f n) z (rw length-row hn)
-          ∙ sym (upTo-below (n + 1) f n (omega arith)))
-      at k hk (no ne) =
-          getD-set-other (row z n f) n k (f n) z ne
-          ∙ getD-tab 16 (upTo z n f) k hk
-          ∙ upTo-next n f k ne
+      (λ k b. by-cases (ℕ-discrete k n)
+      (λ e. rw e (getD-set-same (row z n f) n (f n) z (rw length-row h) ∙ sym (upTo-below (n + 1) f n (omega arith))))
+      (λ d. getD-set-other (row z n f) n k (f n) z d ∙ getD-tab 16 (upTo z n f) k b ∙ upTo-next n f k d))
 
   -- a row depends on f below n alone
   pub row-cong : (n : ℕ) (f g : ℕ → A) → ((k : ℕ) → k < n → f k ≡ g k) → row z n f ≡ row z n g
-  unfolding row
-  row-cong n f g h = row-ext n g (row z n f) (length-row n f) (λ k b. getD-tab 16 (upTo z n f) k b ∙ at k (decLt k n))
-    where
-      at : (k : ℕ) → Dec (k < n) → upTo z n f k ≡ upTo z n g k
-      at k (yes b) = upTo-below n f k b ∙ h k b ∙ sym (upTo-below n g k b)
-      at k (no b) = upTo-above n f k (omega arith) ∙ sym (upTo-above n g k (omega arith))
+  unfolding row upTo
+  row-cong n f g h =
+      row-ext n g (row z n f) (length-row n f)
+      (λ k b. getD-tab 16 (upTo z n f) k b
+      ∙ by-cases (decLt k n) (λ l. rw (lt-ltb k n l) (h k l)) (λ l. rw (le-ltb k n (omega arith))))
 
--- the front of a row is the list that it was made from
-pub take-row : (n : ℕ) (l : List ℕ) → length l ≡ n → n ≤ 16 → take n (row 0 n (entry l)) ≡ l
-take-row n l e few =
-    ext-getD 0 (take n (row 0 n (entry l))) l (long ∙ sym e)
-    (λ k h. let b : k < n = omega (arith, long) in getD-take n (row 0 n (entry l)) k 0 b ∙ getD-row 0 n (entry l) k b few)
-  where
-    long : length (take n (row 0 n (entry l))) ≡ n
-    long = length-take-le n (row 0 n (entry l)) (rw (length-row 0 n (entry l)) few)
-
--- and of any row the list of its entries
+-- the front of a row is the list of its entries
 pub take-row-tab : (n : ℕ) (f : ℕ → ℕ) → n ≤ 16 → take n (row 0 n f) ≡ tab n f
 take-row-tab n f few =
-    ext-getD 0 (take n (row 0 n f)) (tab n f) (long ∙ sym (length-tab 0 n f))
-    (λ k h. let b : k < n = omega (arith, long) in getD-take n (row 0 n f) k 0 b ∙ getD-row 0 n f k b few ∙ sym (getD-tab 0 n f k b))
-  where
-    long : length (take n (row 0 n f)) ≡ n
-    long = length-take-le n (row 0 n f) (rw (length-row 0 n f) few)
+    by-entries 0 (length-take-le n (row 0 n f) (rw (length-row 0 n f) few)) (length-tab 0 n f)
+    (λ k b. getD-take n (row 0 n f) k 0 b ∙ getD-row 0 n f k b few ∙ sym (getD-tab 0 n f k b))
+
+-- or that from which it was made
+pub take-row : (n : ℕ) (l : List ℕ) → length l ≡ n → n ≤ 16 → take n (row 0 n (entry l)) ≡ l
+take-row n l e few =
+    take-row-tab n (entry l) few ∙ by-entries 0 (length-tab 0 n (entry l)) e (getD-tab 0 n (entry l))
 
 -- an index past the end changes nothing
 pub set-past : {A : Type 0} (l : List A) (k : ℕ) (x : A) → length l ≡ 16 → 16 ≤ k → l ≡ set l k x

@@ -1,13 +1,16 @@
 -- Laws of sums.
 use Prim.Native.Nat.{ℕ, zero, suc, _+_, _*_, _≤_, _<_}
 use mathlib.Core.Path.{_≡_, refl, ap, ap₂, _∙_}
-use mathlib.Core.Bool.{Bool, true, false, cond}
-use mathlib.Core.Logic.{_≢_}
-use lib.Dec.{eqb}
-use native.Mathlib.Nat.{add-zero, add-suc}
+use mathlib.Core.Bool.{cond}
+use mathlib.Core.List.{List, [], _∷_}
+use mathlib.Core.Logic.{by-cases}
+use lib.Dec.{eqb, ltb}
+use lib.ListN.{length}
+use native.Mathlib.Nat.{add-zero, add-suc, zero-add}
+use native.Mathlib.Decide.{ℕ-discrete, decLt}
 use native.Mathlib.Omega.{arith}
-use borrow.Author.Tests.{ne-eqb, eqb-true, eqb-false}
-use Rattle.numbers.specs.Sums.{sumTo}
+use borrow.Author.Tests.{eq-eqb, ne-eqb, lt-ltb, le-ltb}
+use Rattle.numbers.specs.Sums.{sumOver, sumTo}
 
 -- sums of equal terms
 pub sumTo-cong : (f g : ℕ → ℕ) (n : ℕ) → ((k : ℕ) → k < n → f k ≡ g k) → sumTo f n ≡ sumTo g n
@@ -26,10 +29,16 @@ unfolding sumTo
 sumTo-add f g zero = refl
 sumTo-add f g (suc n) = omega (arith, sumTo-add f g n)
 
-pub sumTo-zero : (n : ℕ) → sumTo (λ k. 0) n ≡ 0
+-- as many ones as there are terms
+pub sumTo-ones : (n : ℕ) → sumTo (λ k. 1) n ≡ n
 unfolding sumTo
-sumTo-zero zero = refl
-sumTo-zero (suc n) = omega (arith, sumTo-zero n)
+sumTo-ones zero = refl
+sumTo-ones (suc n) = omega (arith, sumTo-ones n)
+
+pub sumOver-ones : (l : List ℕ) → sumOver (λ x. 1) l ≡ length l
+unfolding sumOver
+sumOver-ones [] = refl
+sumOver-ones (x ∷ l) = omega (arith, sumOver-ones l)
 
 -- the first term apart
 pub sumTo-front : (f : ℕ → ℕ) (n : ℕ) → sumTo f (suc n) ≡ f 0 + sumTo (λ k. f (suc k)) n
@@ -45,19 +54,16 @@ sumTo-above f n (suc w) h = ap (sumTo f) (add-suc n w) ∙ omega (arith, h (n + 
 
 -- f x where k is x
 abbrev pub only : ℕ → (ℕ → ℕ) → ℕ → ℕ
-only x f k = cond (eqb k x) (f k) 0
+only x f k = cond (eqb x k) (f k) 0
 
 -- a sum with one term at most
-pub sumTo-none : (x : ℕ) (f : ℕ → ℕ) (n : ℕ) → n ≤ x → sumTo (only x f) n ≡ 0
+pub sumTo-only : (x : ℕ) (f : ℕ → ℕ) (n : ℕ) → sumTo (only x f) n ≡ cond (ltb x n) (f x) 0
 unfolding sumTo
-sumTo-none x f zero h = refl
-sumTo-none x f (suc n) h = rw (ne-eqb n x (λ e. omega arith)) (omega (arith, sumTo-none x f n (omega arith)))
-
-pub sumTo-only : (x : ℕ) (f : ℕ → ℕ) (n : ℕ) → x < n → sumTo (only x f) n ≡ f x
-unfolding sumTo
-sumTo-only x f zero h = absurd (omega arith)
-sumTo-only x f (suc n) h = go (eqb n x) refl (λ l. sumTo-only x f n l)
-  where
-    go : (b : Bool) → eqb n x ≡ b → (x < n → sumTo (only x f) n ≡ f x) → cond (eqb n x) (f n) 0 + sumTo (only x f) n ≡ f x
-    go true e ih = let d = eqb-true n x e in rw (e, sumTo-none x f n (omega arith), d) (omega arith)
-    go false e ih = let d : n ≢ x = eqb-false n x e in rw (e, ih (omega arith)) (omega arith)
+sumTo-only x f zero = rw (le-ltb x 0 (omega arith))
+sumTo-only x f (suc n) =
+    by-cases (ℕ-discrete x n)
+    (λ e. rw (eq-eqb x n e, sumTo-only x f n, le-ltb x n (omega arith), lt-ltb x (suc n) (omega arith), e) (omega arith))
+    (λ d. rw (ne-eqb x n d, sumTo-only x f n, zero-add)
+    (by-cases (decLt x n)
+    (λ h. rw (lt-ltb x n h, lt-ltb x (suc n) (omega arith)))
+    (λ h. rw (le-ltb x n (omega arith), le-ltb x (suc n) (omega arith)))))

@@ -2,7 +2,7 @@
 use Prim.Native.Nat.{ℕ, zero, suc, _-_, _≤_}
 use native.Mathlib.Nat.{sub-zero, zero-sub, suc-sub-suc}
 use native.Mathlib.Omega.{arith}
-use mathlib.Core.Path.{_≡_, refl, sym, ap, _∙_}
+use mathlib.Core.Path.{_≡_, refl, ap}
 use mathlib.Core.List.{List, [], _∷_, _++_}
 use lib.ListN.{length, getD, take, drop, replicate}
 use Rattle.numbers.specs.Rows.{padded}
@@ -13,9 +13,9 @@ take-zeros (suc n) zero l = absurd (omega arith)
 take-zeros (suc n) (suc k) l = ap (λ (x : List ℕ). 0 ∷ x) (take-zeros n k (omega arith))
 
 pub drop-zeros : (n k : ℕ) → drop n (replicate {A = ℕ} k 0) ≡ replicate (k - n) 0
-drop-zeros zero k = ap (λ (x : ℕ). replicate x 0) (sym (sub-zero k))
-drop-zeros (suc n) zero = ap (λ (x : ℕ). replicate x 0) (sym (zero-sub (suc n)))
-drop-zeros (suc n) (suc k) = drop-zeros n k ∙ ap (λ (x : ℕ). replicate x 0) (sym (suc-sub-suc k n))
+drop-zeros zero k = rw sub-zero
+drop-zeros (suc n) zero = rw zero-sub
+drop-zeros (suc n) (suc k) = rw suc-sub-suc (drop-zeros n k)
 
 pub zero-at : (k x : ℕ) → getD (replicate {A = ℕ} k 0) x 0 ≡ 0
 zero-at zero x = refl

@@ -3,7 +3,7 @@ use Prim.Native.Nat.{ℕ, suc, _≤_}
 use mathlib.Core.Path.{_≡_, refl, sym, _∙_, ap}
 use mathlib.Core.List.{List, [], _∷_, _++_}
 use mathlib.Core.Bool.{Bool, true, true≢false}
-use mathlib.Core.Logic.{_⊎_, inl, inr, _↔_}
+use mathlib.Core.Logic.{inl, inr, ⊎-elim, _↔_}
 use native.Mathlib.Omega.{arith}
 use Rattle.numbers.specs.First.{first}
 use Rattle.numbers.proofs.FirstLaws.{first-is, first-zero, isFirst-unique, isFirst-map}
@@ -67,12 +67,12 @@ pub record Reports (cs : List Condition) (o : Outcome) : Type 0 where
 pub then-reports : (cs ds : List Condition) {o p : Outcome} → Reports cs o → (None cs → Reports ds p) → Reports (cs ++ ds) (o then p)
 then-reports cs ds {o} {p} a b = record {
   accepted = λ e. let r = then-accepted o p e in let n = a .accepted (r .0) in none-append cs ds .1 (n, b n .accepted (r .1));
-  refused = λ c e. go c (then-cases o p c e);
+  refused = λ c e.
+      ⊎-elim
+      (λ q. first-front cs ds _ _ (a .refused c q))
+      (λ q. let n = a .accepted (q .0) in first-behind cs ds _ _ n (b n .refused c (q .1)))
+      (then-cases o p c e);
 }
-  where
-    go : (c : Cause) → (o ≡ Refused c) ⊎ ((o ≡ Accepted) × (p ≡ Refused c)) → First (cs ++ ds) (numberOf c) (placeOf c)
-    go c (inl e) = first-front cs ds _ _ (a .refused c e)
-    go c (inr e) = let n = a .accepted (e .0) in first-behind cs ds _ _ n (b n .refused c (e .1))
 
 -- a test that computes its condition
 pub test-only : {P : Type 0} {t : Bool} (c : Cause) → placeOf c ≡ 0 → (t ≡ true) ↔ P → Reports (only (numberOf c) P ∷ []) (refuseIf t c)
@@ -114,30 +114,21 @@ accepted-gives e = (ap numberIn e, ap placeIn e)
 
 module _ {cs : List Condition} {o : Outcome} (r : Reports cs o) where
   none-accepted : None cs → o ≡ Accepted
-  none-accepted n = go (outcome-cases o)
-    where
-      go : (o ≡ Accepted) ⊎ ((c : Cause) × (o ≡ Refused c)) → o ≡ Accepted
-      go (inl e) = e
-      go (inr e) = absurd (none-first cs _ _ n (r .refused (e .0) (e .1)))
+  none-accepted n = ⊎-elim (λ e. e) (λ e. absurd (none-first cs _ _ n (r .refused (e .0) (e .1)))) (outcome-cases o)
 
   pub first-given : {k p : ℕ} → First cs k p → Gives o k p
-  first-given {k} {p} f = go (outcome-cases o)
-    where
-      go : (o ≡ Accepted) ⊎ ((c : Cause) × (o ≡ Refused c)) → Gives o k p
-      go (inl e) = absurd (none-first cs k p (r .accepted e) f)
-      go (inr e) =
-          let u = first-unique cs (r .refused (e .0) (e .1)) f in
-          (ap numberIn (e .1) ∙ u .0, ap placeIn (e .1) ∙ u .1)
+  first-given {k} {p} f =
+      ⊎-elim
+      (λ e. absurd (none-first cs k p (r .accepted e) f))
+      (λ e. let u = first-unique cs (r .refused (e .0) (e .1)) f in (ap numberIn (e .1) ∙ u .0, ap placeIn (e .1) ∙ u .1))
+      (outcome-cases o)
 
   given-first : {k p : ℕ} → 1 ≤ k → Gives o k p → First cs k p
-  given-first {k} {p} h g = go (outcome-cases o)
-    where
-      go : (o ≡ Accepted) ⊎ ((c : Cause) × (o ≡ Refused c)) → First cs k p
-      go (inl e) = absurd (let z : 0 ≡ k = sym (ap numberIn e) ∙ g .0 in omega arith)
-      go (inr e) =
-          let a : numberOf (e .0) ≡ k = sym (ap numberIn (e .1)) ∙ g .0 in
-          let b : placeOf (e .0) ≡ p = sym (ap placeIn (e .1)) ∙ g .1 in
-          rw (← a, ← b) (r .refused (e .0) (e .1))
+  given-first {k} {p} h g =
+      ⊎-elim
+      (λ e. absurd (omega (arith, sym (ap numberIn e) ∙ g .0)))
+      (λ e. rw (← g .0, ← g .1, e .1) (r .refused (e .0) (e .1)))
+      (outcome-cases o)
 
 -- The tests of a call report its conditions, and none of these holds exactly if the call is valid.
 pub record Tested (Valid : Type 0) (cs : List Condition) (o : Outcome) : Type 0 where
@@ -170,13 +161,4 @@ accepts {o = o} d = (λ e. d .accepted .0 (accepted-gives e), λ v. gives-accept
 
 -- outcomes of the same number and place decide the same
 pub decides-same : {Valid : Type 0} {cs : List Condition} (o p : Outcome) → numberIn o ≡ numberIn p → placeIn o ≡ placeIn p → Decides Valid cs p → Decides Valid cs o
-decides-same o p a b d = record {
-  accepted = (
-    λ g. d .accepted .0 (sym a ∙ g .0, sym b ∙ g .1),
-    λ v. let g = d .accepted .1 v in (a ∙ g .0, b ∙ g .1),
-  );
-  refused = λ k q h. (
-    λ g. d .refused k q h .0 (sym a ∙ g .0, sym b ∙ g .1),
-    λ f. let g = d .refused k q h .1 f in (a ∙ g .0, b ∙ g .1),
-  );
-}
+decides-same o p a b d = record { accepted = rw (a, b) (d .accepted); refused = λ k q h. rw (a, b) (d .refused k q h) }

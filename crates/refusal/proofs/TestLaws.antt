@@ -1,6 +1,6 @@
 -- Laws of tests made in order.
 use Prim.Native.Nat.{ℕ, zero, suc}
-use mathlib.Core.Path.{_≡_, refl, _∙_, ap, ap₂}
+use mathlib.Core.Path.{_≡_, refl, _∙_, ap₂}
 use mathlib.Core.List.{List, [], _∷_, _++_}
 use mathlib.Core.Bool.{Bool, true, false, not}
 use lib.Dec.{eqb}
@@ -19,9 +19,6 @@ accepted≢refused p q = let z : _≡_ {A = ℕ} 0 1 = cc in omega arith
 pub outcome-cases : (o : Outcome) → (o ≡ Accepted) ⊎ ((c : Cause) × (o ≡ Refused c))
 outcome-cases Accepted = inl refl
 outcome-cases (Refused c) = inr (c, refl)
-
-same-cause : {o : Outcome} {c d : Cause} → o ≡ Refused c → o ≡ Refused d → c ≡ d
-same-cause p q = cc
 
 -- two tests accept if each does
 pub then-accepted : (a b : Outcome) → a then b ≡ Accepted → (a ≡ Accepted) × (b ≡ Accepted)
@@ -56,16 +53,8 @@ refuseIf-accepted false c e = refl
 
 pub refuseIf-refused : (t : Bool) (c d : Cause) → refuseIf t c ≡ Refused d → (t ≡ true) × (c ≡ d)
 unfolding refuseIf
-refuseIf-refused true c d e = (refl, same-cause refl e)
+refuseIf-refused true c d e = (refl, cc)
 refuseIf-refused false c d e = absurd (accepted≢refused refl e)
-
-pub refuseIf-true : (t : Bool) (c : Cause) → t ≡ true → refuseIf t c ≡ Refused c
-unfolding refuseIf
-refuseIf-true t c e = rw e
-
-pub refuseIf-false : (t : Bool) (c : Cause) → t ≡ false → refuseIf t c ≡ Accepted
-unfolding refuseIf
-refuseIf-false t c e = rw e
 
 -- a test that looks for a place
 pub refuseAt-accepted : (k : ℕ) (c : ℕ → Cause) → refuseAt k c ≡ Accepted → k ≡ 0
@@ -76,7 +65,7 @@ refuseAt-accepted (suc k) c e = absurd (accepted≢refused e refl)
 pub refuseAt-refused : (k : ℕ) (c : ℕ → Cause) (d : Cause) → refuseAt k c ≡ Refused d → (j : ℕ) × (k ≡ suc j) × (c (suc j) ≡ d)
 unfolding refuseAt
 refuseAt-refused zero c d e = absurd (accepted≢refused refl e)
-refuseAt-refused (suc k) c d e = (k, refl, same-cause refl e)
+refuseAt-refused (suc k) c d e = (k, refl, cc)
 
 pub refuseAt-zero : (k : ℕ) (c : ℕ → Cause) → k ≡ 0 → refuseAt k c ≡ Accepted
 unfolding refuseAt
@@ -95,13 +84,10 @@ inOrder-append (Accepted ∷ ts) us = inOrder-append ts us
 inOrder-append (Refused c ∷ ts) us = refl
 
 -- The steps of a program that makes its tests and joins them.
-refuse-at : (k : ℕ) (c : ℕ → Cause) → refuseIf (not (eqb k 0)) (c k) ≡ refuseAt k c
-unfolding refuseIf refuseAt
-refuse-at zero c = refl
-refuse-at (suc k) c = rw (ne-eqb (suc k) 0 (λ e. omega arith))
-
 pub refuse-at-by : (c : ℕ → Cause) {k w : ℕ} {r : Outcome} → r ≡ refuseIf (not (eqb k 0)) (c k) → k ≡ w → r ≡ refuseAt w c
-refuse-at-by c {k} e d = e ∙ refuse-at k c ∙ ap (λ x. refuseAt x c) d
+unfolding refuseIf refuseAt
+refuse-at-by c {k = zero} e d = rw (← d) e
+refuse-at-by c {k = suc k} e d = rw (← d) (rw (ne-eqb (suc k) 0 (λ z. omega arith)) at e)
 
 pub order-step : {t o x r : Outcome} (ts : List Outcome) → r ≡ t then o → t ≡ x → o ≡ inOrder ts → r ≡ inOrder (x ∷ ts)
 unfolding inOrder
@@ -109,8 +95,5 @@ order-step ts e p q = e ∙ ap₂ _then_ p q
 
 pub order-last : {t x : Outcome} → t ≡ x → t ≡ inOrder (x ∷ [])
 unfolding inOrder _then_
-order-last {t} {x} e = e ∙ go x
-  where
-    go : (x : Outcome) → x ≡ x then Accepted
-    go Accepted = refl
-    go (Refused c) = refl
+order-last {x = Accepted} e = e
+order-last {x = Refused c} e = e

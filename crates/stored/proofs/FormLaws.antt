@@ -1,10 +1,11 @@
 -- The fields of a table made of sizes, periods and budgets are these; and the steps of the decoder.
-use Prim.Native.Nat.{ℕ, _+_, _*_, _-_, _≤_, _<_, min}
-use mathlib.Core.Path.{_≡_, sym, _∙_, ap}
+use Prim.Native.Nat.{ℕ, _+_, _*_, _≤_, _<_, min}
+use mathlib.Core.Path.{_≡_, refl, sym, _∙_, ap}
 use mathlib.Core.List.{List, [], _∷_, _++_, append-nil}
+use mathlib.Core.Logic.{by-cases}
 use native.Mathlib.Omega.{arith}
 use native.Mathlib.Decide.{decLt}
-use lib.ListN.{length, getD, length-append, length-replicate, replicate, List·getD-eq-default}
+use lib.ListN.{length, getD, length-append, length-replicate, List·getD-eq-default}
 use Rattle.numbers.specs.Rows.{row, upTo, padded}
 use Rattle.numbers.proofs.RowLaws.{getD-tab, upTo-below, upTo-above, length-row, row-ext, Filled, fill-done}
 use Rattle.numbers.proofs.ZeroLaws.{getD-padded}
@@ -13,44 +14,41 @@ use Rattle.wire.proofs.ReadBackLaws.{read-back, length-bytes}
 use Rattle.stored.specs.Form.{fieldsOf, tableOf, FieldsReadBack}
 
 -- a row that is read back is the list, with zeros up to sixteen
-row-read : (xs : List ℕ) (f : ℕ → ℕ) → length xs ≤ 16 → ((k : ℕ) → k < length xs → f k ≡ getD xs k 0) → row 0 (length xs) f ≡ padded xs
-row-read xs f few h = sym (row-ext 0 (length xs) f (padded xs) long (λ k b. getD-padded xs k ∙ at k (decLt k (length xs))))
-  where
-    long : length (padded xs) ≡ 16
-    long = omega (arith, length-append xs (replicate (16 - length xs) 0), length-replicate {A = ℕ} (16 - length xs) 0)
-
-    at : (k : ℕ) → Dec (k < length xs) → getD xs k 0 ≡ upTo 0 (length xs) f k
-    at k (yes b) = sym (upTo-below 0 (length xs) f k b ∙ h k b)
-    at k (no b) = List·getD-eq-default xs 0 (omega arith) ∙ sym (upTo-above 0 (length xs) f k (omega arith))
+row-read : (xs : List ℕ) {n : ℕ} (f : ℕ → ℕ) → length xs ≡ n → n ≤ 16
+    → ((k : ℕ) → k < length xs → f k ≡ getD xs k 0) → row 0 n f ≡ padded xs
+row-read xs {n} f e few h =
+    let long : length (padded xs) ≡ 16 = simp (length-append, length-replicate) (omega arith) in
+    sym (row-ext 0 n f (padded xs) long
+    (λ k b. getD-padded xs k
+    ∙ by-cases (decLt k n)
+    (λ l. sym (upTo-below 0 n f k l ∙ h k (omega arith)))
+    (λ l. List·getD-eq-default xs 0 (omega arith) ∙ sym (upTo-above 0 n f k (omega arith)))))
 
 pub fields-read-back : FieldsReadBack
 unfolding fieldsOf
 fields-read-back m periods budgets few e p b = λ i. record { n = length periods; m = m; periods = there i; budgets = here i }
   where
     there : row 0 (length periods) (wordAt (tableOf m periods budgets) 2) ≡ padded periods
-    there = row-read periods (wordAt (tableOf m periods budgets) 2) few (λ k h. read-back periods p .each (length periods ∷ m ∷ []) (bytesOfAll budgets) k h)
+    there = row-read periods _ refl few (read-back periods p .each (length periods ∷ m ∷ []) (bytesOfAll budgets))
 
     split : tableOf m periods budgets ≡ (length periods ∷ m ∷ bytesOfAll periods) ++ (bytesOfAll budgets ++ [])
-    split = ap (λ (l : List ℕ). length periods ∷ m ∷ (bytesOfAll periods ++ l)) (sym (append-nil (bytesOfAll budgets)))
+    split = rw append-nil
 
     at : 2 + 4 * length periods ≡ length (length periods ∷ m ∷ bytesOfAll periods)
     at = omega (arith, length-bytes periods)
 
     here : row 0 (length periods) (wordAt (tableOf m periods budgets) (2 + 4 * length periods)) ≡ padded budgets
-    here =
-        ap (λ (n : ℕ). row 0 n (wordAt (tableOf m periods budgets) (2 + 4 * length periods))) (sym e)
-        ∙ row-read budgets (wordAt (tableOf m periods budgets) (2 + 4 * length periods)) (omega arith) (λ k h. rw (split, at) (read-back budgets b .each (length periods ∷ m ∷ bytesOfAll periods) [] k h))
+    here = row-read budgets _ e few (λ k h. rw (split, at) (read-back budgets b .each (_ ∷ m ∷ bytesOfAll periods) [] k h))
 
 -- a row has sixteen entries, however large n is
 row-most : (n : ℕ) (f : ℕ → ℕ) {l : List ℕ} → l ≡ row 0 (min n 16) f → l ≡ row 0 n f
 unfolding row
 row-most n f {l} e =
     row-ext 0 n f l (ap length e ∙ length-row 0 (min n 16) f)
-    (λ k b. ap (λ (x : List ℕ). getD x k 0) e ∙ getD-tab 0 16 (upTo 0 (min n 16) f) k b ∙ at k b (decLt k n))
-  where
-    at : (k : ℕ) → k < 16 → Dec (k < n) → upTo 0 (min n 16) f k ≡ upTo 0 n f k
-    at k b (yes h) = upTo-below 0 (min n 16) f k (omega arith) ∙ sym (upTo-below 0 n f k h)
-    at k b (no h) = upTo-above 0 (min n 16) f k (omega arith) ∙ sym (upTo-above 0 n f k (omega arith))
+    (λ k b. ap (λ (x : List ℕ). getD x k 0) e ∙ getD-tab 0 16 (upTo 0 (min n 16) f) k b
+    ∙ by-cases (decLt k n)
+    (λ h. upTo-below 0 (min n 16) f k (omega arith) ∙ sym (upTo-below 0 n f k h))
+    (λ h. upTo-above 0 (min n 16) f k (omega arith) ∙ sym (upTo-above 0 n f k (omega arith))))
 
 -- the loop that fills at most sixteen of n entries
 pub fill-most : (n : ℕ) {f : ℕ → ℕ} {count : ℕ} {l : List ℕ} {k : ℕ} → Filled 0 count f l k → count ≡ min n 16 → count ≤ k → l ≡ row 0 n f

@@ -2,12 +2,12 @@
 use Prim.Native.Nat.{ℕ, _+_, _*_, _<_}
 use mathlib.Core.Path.{_≡_, refl, sym, _∙_, ap}
 use mathlib.Core.List.{List, _∷_}
-use mathlib.Core.Logic.{_↔_, _≢_}
+use mathlib.Core.Logic.{_≢_}
 use lib.ListN.{length}
 use native.Mathlib.Omega.{arith}
 use Rattle.numbers.proofs.BoundLaws.{less-exactly, unequal-exactly, not-unequal}
 use Rattle.refusal.specs.Tests.{_then_, inOrder}
-use Rattle.refusal.specs.Conditions.{Condition, only, None, Decides}
+use Rattle.refusal.specs.Conditions.{Condition, only, Decides}
 use Rattle.refusal.specs.declared.Cause.the-variants.{TooShort, Length}
 use Rattle.refusal.specs.declared.Outcome.{Outcome}
 use Rattle.refusal.specs.declared.Outcome.the-variants.{Accepted}
@@ -43,20 +43,19 @@ module _ (s : List ℕ) where
   unfolding inOrder
   behind-reported = test-only Length refl (unequal-exactly (length s) (2 + 8 * taskCount s)) and limits-reported f
 
-  table-valid : None (conditions s) ↔ Valid s
-  table-valid = (
-    λ n.
-        let r = none-append front behind .0 n in
-        record { exact = not-unequal _ _ (r .1 .0); fields = limits-kept f (sizes-kept f .0 (r .0 .1)) (r .1 .1) },
-    λ v. none-append front behind .1
-        ((λ h. omega (arith, v .exact)) also sizes-kept f .1 (v .fields .sizes), (λ n. n (v .exact)) also within-kept f (v .fields)),
-  )
-
   pub table-tested : Tested (Valid s) (conditions s) (tableOutcome s)
   unfolding tableOutcome
   table-tested = record {
     reports = rw (inOrder-append (shortTest s ∷ sizeTests f) (lengthTest s ∷ limitTests f)) (then-reports front behind front-reported (λ _. behind-reported));
-    valid = table-valid;
+    valid = (
+      λ n.
+          let r = none-append front behind .0 n in
+          record { exact = not-unequal _ _ (r .1 .0); fields = limits-kept f (sizes-kept f .0 (r .0 .1)) (r .1 .1) },
+      λ v. none-append front behind .1 (
+        (λ h. omega (arith, v .exact)) also sizes-kept f .1 (v .fields .sizes),
+        (λ n. n (v .exact)) also within-kept f (v .fields),
+      ),
+    );
   }
 
   pub reading-decides : Decides (Valid s) (conditions s) (readingOf s .outcome)

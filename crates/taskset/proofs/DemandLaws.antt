@@ -1,14 +1,12 @@
 -- The hyperperiod and the demands of fields within the limits are exact; and the steps of the loop that takes the running multiple.
 use Prim.Native.Nat.{ℕ, _+_, _*_, _/_, _≤_, _<_}
 use mathlib.Core.Path.{_≡_, refl, sym, _∙_, ap}
-use mathlib.Core.Bool.{true, false, cond}
-use lib.Dec.{eqb}
+use mathlib.Core.Bool.{true, false}
 use native.Mathlib.Omega.{arith}
 use native.Mathlib.Numerals.{add-one}
 use native.Mathlib.Nat.{mul-div-assoc, mul-le-mul-right, mul-div-le, div-mul-cancel, dvd-mul-left-of-dvd, le-trans, le-of-dvd, le-div-iff-mul-le, one-mul, mul-pos}
-use borrow.Author.Tests.{lt-ltb, le-ltb, eq-eqb, ne-eqb}
-use Rattle.numbers.specs.First.{first}
-use Rattle.numbers.specs.Rows.{row, entry}
+use borrow.Author.Tests.{lt-ltb, le-ltb, ne-eqb}
+use Rattle.numbers.specs.Rows.{entry}
 use Rattle.numbers.specs.Multiples.{lcm, lcms, IsLcm}
 use Rattle.numbers.proofs.FirstLaws.{Seeking, seek-start, seek-none, looked-on, looked-found, first-clear}
 use Rattle.numbers.proofs.MultipleLaws.{lcms-is, lcms-mono}
@@ -50,20 +48,14 @@ module _ {f : Fields} {k h : ℕ} (m : Multiplying f k h) (below : k < f .n) (v 
   pub multiply-exceeded : 1000000 < v → _≡_ {A = Multiple} (record { exceeded = k + 1; value = 0 }) (multipleOf f)
   unfolding exceeds multipleOf
   multiply-exceeded s =
-      let p : k + 1 ≡ first (exceeds f) (f .n) =
-      looked-found {p = exceeds f} {r = true} (m .seeking) below (sym (rw (← next-is) (lt-ltb 1000000 v s))) refl in
-      let q : 0 ≡ cond (eqb (first (exceeds f) (f .n)) 0) (hyperperiodOf f) 0 =
-      rw (ne-eqb (first (exceeds f) (f .n)) 0 (λ z. omega (arith, p))) in
-      λ i. record { exceeded = p i; value = q i }
+      let p = looked-found {p = exceeds f} {r = true} (m .seeking) below (sym (rw (← next-is) (lt-ltb 1000000 v s))) refl in
+      rw (← p, ne-eqb (k + 1) 0 (λ z. omega arith))
 
 pub multiply-done : {f : Fields} {k h : ℕ} → Multiplying f k h → f .n ≤ k → _≡_ {A = Multiple} (record { exceeded = 0; value = h }) (multipleOf f)
 unfolding multipleOf hyperperiodOf
 multiply-done {f} {k} {h} m g =
     let d : k ≡ f .n = omega (arith, m .seeking .top) in
-    let p : 0 ≡ first (exceeds f) (f .n) = seek-none (m .seeking) g in
-    let q : h ≡ cond (eqb (first (exceeds f) (f .n)) 0) (multipleTo f (f .n)) 0 =
-    rw (eq-eqb (first (exceeds f) (f .n)) 0 (sym p)) (rw d at (m .is)) in
-    λ i. record { exceeded = p i; value = q i }
+    rw (← seek-none (m .seeking) g, m .is, d)
 
 module _ {f : Fields} (w : Within f) where
   -- the hyperperiod is the least common multiple of the periods
@@ -84,24 +76,18 @@ module _ {f : Fields} (w : Within f) where
     unfolding demandOf
     demand-by e q = rw (q, e) (sym (mul-div-assoc (periodAt f k) (budgetAt f k) (hyperperiod-is .multiple k below)))
 
-    demand-le : demandOf f k ≤ hyperperiodOf f
-    demand-le =
-        rw (← demand-by refl refl)
-        (le-trans (mul-le-mul-right (hyperperiodOf f / periodAt f k) (w .budgets k below .1))
-        (mul-div-le (hyperperiodOf f) (periodAt f k)))
-
-    demand-pos : 1 ≤ demandOf f k
-    demand-pos =
-        rw (← demand-by refl refl)
-        (mul-pos (w .budgets k below .0)
-        (le-div-iff-mul-le {x = 1} (w .periods k below .0) .1
-        (rw one-mul (le-of-dvd (hyperperiod-is .positive) (hyperperiod-is .multiple k below)))))
-
     pub demand-range : (1 ≤ demandOf f k) × (demandOf f k ≤ hyperperiodOf f)
-    demand-range = (demand-pos, demand-le)
+    demand-range =
+        rw (← demand-by refl refl) (
+          mul-pos (w .budgets k below .0)
+              (le-div-iff-mul-le {x = 1} (w .periods k below .0) .1
+              (rw one-mul (le-of-dvd (hyperperiod-is .positive) (hyperperiod-is .multiple k below)))),
+          le-trans (mul-le-mul-right (hyperperiodOf f / periodAt f k) (w .budgets k below .1))
+              (mul-div-le (hyperperiodOf f) (periodAt f k)),
+        )
 
     pub demand-fits : {h j : ℕ} → h ≡ hyperperiodOf f → j ≡ h / periodAt f k → budgetAt f k * j ≤ 1000000
-    demand-fits e q = rw (demand-by e q) (le-trans demand-le (w .multiple))
+    demand-fits e q = rw (demand-by e q) (le-trans (demand-range .1) (w .multiple))
 
   -- the task set is exact
   pub taskSet-exact : Exact (taskSetOf f)
@@ -118,18 +104,15 @@ module _ {f : Fields} (w : Within f) where
   unfolding hyperperiodOf multipleTo
   multiple-bound k h = le-trans (lcms-mono (periodAt f) (k + 1) (f .n) (omega arith) (λ j g. w .periods j g .0)) (w .multiple)
 
-  exceeds-none : first (exceeds f) (f .n) ≡ 0
-  unfolding exceeds
-  exceeds-none = first-clear (exceeds f) (f .n) (λ k h. le-ltb 1000000 (multipleTo f (k + 1)) (multiple-bound k h))
-
   pub multiple-value : (r : Multiple) → r ≡ multipleOf f → r .value ≡ hyperperiodOf f
-  unfolding multipleOf
-  multiple-value r e = ap (λ x. x .value) e ∙ rw exceeds-none
+  unfolding multipleOf exceeds
+  multiple-value r e =
+      let n = first-clear (exceeds f) (f .n) (λ k h. le-ltb 1000000 (multipleTo f (k + 1)) (multiple-bound k h)) in
+      ap (λ x. x .value) e ∙ rw n
 
 -- a checked task set has demands of at most 1,000,000
 pub demands-small : {t : TaskSet} → Checked t → (k : ℕ) → k < t .fields .n → entry (t .demands) k ≤ 1000000
 unfolding taskSetOf
-demands-small {t} c k h =
-    let w = c .within in
-    let e : t .demands ≡ row 0 (t .fields .n) (demandOf (t .fields)) = ap (λ (x : TaskSet). x .demands) (c .is) in
-    rw (e, getD-row 0 (t .fields .n) (demandOf (t .fields)) k h (w .sizes .tasks .1)) (le-trans (demand-range w h .1) (w .multiple))
+demands-small c k h =
+    rw (ap (λ (x : TaskSet). x .demands) (c .is))
+    (le-trans (taskSet-exact (c .within) .range k h .1) (c .within .multiple))

@@ -1,12 +1,11 @@
 -- Fields are accepted exactly if they are within the limits, and refused with the first condition that holds.
-use Prim.Native.Nat.{ℕ, zero, suc, _+_, _≤_}
+use Prim.Native.Nat.{ℕ, _+_, _-_, _≤_}
 use mathlib.Core.Path.{_≡_, refl}
-use mathlib.Core.Bool.{Bool, true, false}
+use mathlib.Core.Bool.{true}
 use mathlib.Core.Logic.{_↔_}
 use native.Mathlib.Omega.{arith}
-use native.Mathlib.Numerals.{add-one}
-use borrow.Author.Tests.{ltb-true, ltb-false, lt-ltb}
-use Rattle.numbers.proofs.BoundLaws.{outside-exactly, not-outside}
+use borrow.Author.Tests.{ltb-true, lt-ltb}
+use Rattle.numbers.proofs.BoundLaws.{outside-exactly, not-outside, not-less}
 use Rattle.numbers.proofs.MultipleLaws.{lcms-exactly}
 use Rattle.refusal.specs.Tests.{inOrder}
 use Rattle.refusal.specs.Conditions.{None}
@@ -19,10 +18,6 @@ use Rattle.taskset.specs.Tests.{badPeriod, badBudget, exceeds, sizeTests
 use Rattle.taskset.specs.Limits.{Sized, Within, Exceeds, sizes, limits, fieldConditions}
 use Rattle.taskset.specs.declared.Fields.{Fields}
 use Rattle.taskset.proofs.DemandLaws.{multiple-bound}
-
-not-true-false : (b : Bool) → (b ≡ true → ⊥) → b ≡ false
-not-true-false true n = absurd (n refl)
-not-true-false false n = refl
 
 module _ (f : Fields) where
   -- the multiple that is computed is the least common multiple
@@ -62,14 +57,12 @@ module _ (f : Fields) where
     sizes = z;
     periods = λ k h. not-outside 1 10000 (periodAt f k) .0 (n .0 k h);
     budgets = λ k h. not-outside 1 (periodAt f k) (budgetAt f k) .0 (n .1 .0 k h);
-    multiple = last (f .n) refl;
+    multiple =
+        let q : f .n ≡ f .n - 1 + 1 = omega (arith, z .tasks .0) in
+        let m : multipleTo f (f .n - 1 + 1) ≤ 1000000 =
+        not-less 1000000 _ (λ h. n .1 .1 .0 (f .n - 1) (omega arith) (exceeds-exactly (f .n - 1) .0 (lt-ltb 1000000 _ h))) in
+        rw (← q) at m;
   }
-    where
-      last : (j : ℕ) → f .n ≡ j → multipleTo f j ≤ 1000000
-      last zero q = absurd (omega (arith, z .tasks .0))
-      last (suc j) q =
-          let c : multipleTo f (j + 1) ≤ 1000000 = ltb-false 1000000 _ (not-true-false (exceeds f j) (λ e. n .1 .1 .0 j (omega arith) (exceeds-exactly j .0 e))) in
-          rw (add-one j) at c
 
   pub within-kept : Within f → None (limits f)
   unfolding exceeds

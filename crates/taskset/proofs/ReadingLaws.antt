@@ -9,7 +9,7 @@ use Rattle.refusal.proofs.TestLaws.{accepted≢refused, then-first, then-refuse
 use Rattle.refusal.proofs.ConditionLaws.{decides, accepts}
 use Rattle.taskset.specs.Tests.{sizeTests, limitTests, fieldsOutcome}
 use Rattle.taskset.specs.Reading.{taskSetOf, noTasks, refusedReading, acceptedReading, readingBy, checkOf}
-use Rattle.taskset.specs.Limits.{Sized, Within, fieldConditions, Checked, RefusedReading, Reads}
+use Rattle.taskset.specs.Limits.{Sized, Within, fieldConditions, Reads}
 use Rattle.taskset.specs.declared.Fields.{Fields}
 use Rattle.taskset.specs.declared.Reading.{Reading}
 use Rattle.taskset.proofs.DemandLaws.{taskSet-exact}
@@ -29,25 +29,17 @@ reading-accepted (Refused c) f e = absurd (accepted≢refused e refl)
 
 -- What a reading promises, where the tests accept only fields within the limits.
 module _ (f : Fields) where
-  checked : Within f → Checked (taskSetOf f)
-  unfolding taskSetOf
-  checked w = record { within = w; is = refl }
-
-  zeros : (c : Cause) → RefusedReading (readingBy (Refused c) f)
-  unfolding readingBy refusedReading noTasks
-  zeros c = record { tasks = refl; cores = refl; periods = refl; budgets = refl; hyperperiod = refl; demands = refl }
-
   pub reading-promised : (o : Outcome) → (o ≡ Accepted → Within f) → Reads (readingBy o f)
-  unfolding readingBy refusedReading acceptedReading
+  unfolding readingBy refusedReading acceptedReading taskSetOf noTasks
   reading-promised Accepted w = record {
-    checked = λ e. checked (w refl);
+    checked = λ e. record { within = w refl; is = refl };
     exact = λ e. taskSet-exact (w refl);
     refused = λ n. absurd (n refl);
   }
   reading-promised (Refused c) w = record {
     checked = λ e. absurd (accepted≢refused e refl);
     exact = λ e. absurd (accepted≢refused e refl);
-    refused = λ n. zeros c;
+    refused = λ n. record { tasks = refl; cores = refl; periods = refl; budgets = refl; hyperperiod = refl; demands = refl };
   }
 
 -- ---- the steps of the programs

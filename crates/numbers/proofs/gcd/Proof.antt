@@ -12,17 +12,8 @@ Inv-loop a b x₀ y₀ x y = gcd a b ≡ gcd x y
 abbrev μ-loop : tie.MeasureT-loop
 μ-loop a b x₀ y₀ x y = y
 
-rem-t : tie.Need-rem-t Inv-loop μ-loop
-rem-t c = pos-of-ne-zero (c .loop-test .taken)
-
-loop-less : tie.Need-loop-less Inv-loop μ-loop
-loop-less c = mod-lt _ (pos-of-ne-zero (c .loop-test .taken))
-
-loop-again : tie.Need-loop-again Inv-loop μ-loop
-loop-again c = c .before .loop .inv ∙ gcd-step _ _ (pos-of-ne-zero (c .loop-test .taken))
-
-returns : tie.Need-returns Inv-loop μ-loop
-returns c = sym (c .before .loop .inv ∙ ap (gcd _) (c .loop-test .left) ∙ gcd-zero _)
-
 pub gcd-spec : {M : Type 1} → statement M
-gcd-spec = tie.close (tie.spec Inv-loop μ-loop (λ c. refl) rem-t loop-less loop-again returns)
+gcd-spec =
+    tie.close (tie.spec Inv-loop μ-loop (λ c. refl) (λ c. pos-of-ne-zero (c .loop-test .taken))
+    (λ c. mod-lt _ (pos-of-ne-zero (c .loop-test .taken))) (λ c. c .before .loop .inv ∙ gcd-step _ _)
+    (λ c. sym (c .before .loop .inv ∙ ap (gcd _) (c .loop-test .left) ∙ gcd-zero _)))

@@ -3,10 +3,7 @@ use borrow.Author.Needs.{needs}
 use Rattle.stored.proofs.length_test.Statement.{statement}
 use Rattle.stored.proofs.length_test.Tie as tie
 
-returns : tie.Need-returns
-returns c = cc
-
 pub length-test-spec : {M : Type 1} → statement M
 length-test-spec =
     tie.close (tie.spec (λ c κs. search needs) (λ c κs. search needs) (λ c. search needs) (λ c. search needs)
-    (λ c κs. search needs) returns)
+    (λ c κs. search needs) (λ c. cc))

@@ -14,15 +14,13 @@ Inv-loop s at n count entries₀ k₀ entries k = Filled 0 count (wordAt s at) e
 abbrev μ-loop : tie.MeasureT-loop
 μ-loop s at n count entries₀ k₀ entries k = count - k
 
-loop-holds : tie.Need-loop-holds Inv-loop μ-loop
-loop-holds c = fill-start 0 _ _ (omega (arith, c .at-most-sixteen .ensures))
-
 loop-again : tie.Need-loop-again Inv-loop μ-loop
 unfolding wordAt
 loop-again c = search (needs, fill-with)
 
 pub words-spec : {M : Type 1} → statement M
 words-spec =
-    tie.close (tie.spec Inv-loop μ-loop (λ c κs. search needs) loop-holds (λ c. search needs) (λ c. search needs)
+    tie.close (tie.spec Inv-loop μ-loop (λ c κs. search needs)
+    (λ c. fill-start 0 _ _ (omega (arith, c .at-most-sixteen .ensures))) (λ c. search needs) (λ c. search needs)
     (λ c κs. search needs) (λ c κs. search needs) (λ c. search needs) (λ c. search needs) loop-again
     (λ c. search (needs, fill-most)))

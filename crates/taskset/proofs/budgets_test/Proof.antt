@@ -5,8 +5,7 @@ use borrow.Author.Needs.{needs}
 use Rattle.taskset.proofs.budgets_test.Statement.{statement}
 use Rattle.taskset.proofs.budgets_test.Tie as tie
 
-returns : tie.Need-returns
-returns c = refuse-at-by Budget (c .refuse-if .ensures) (c .before .first-bad-budget .ensures)
-
 pub budgets-test-spec : {M : Type 1} → statement M
-budgets-test-spec = tie.close (tie.spec (λ c κs. search needs) (λ c κs. search needs) returns)
+budgets-test-spec =
+    tie.close (tie.spec (λ c κs. search needs) (λ c κs. search needs)
+    (λ c. refuse-at-by Budget (c .refuse-if .ensures) (c .before .first-bad-budget .ensures)))

@@ -4,10 +4,7 @@ use borrow.Author.Needs.{needs}
 use Rattle.taskset.proofs.check_after.Statement.{statement}
 use Rattle.taskset.proofs.check_after.Tie as tie
 
-check-limits-requires : tie.Need-check-limits-requires
-check-limits-requires c κs = c .before .before .pre (cc)
-
 pub check-after-spec : {M : Type 1} → statement M
 check-after-spec =
-    tie.close (tie.spec (λ c. search needs) (λ c κs. search needs) (λ c. search needs) check-limits-requires
+    tie.close (tie.spec (λ c. search needs) (λ c κs. search needs) (λ c. search needs) (λ c κs. c .before .before .pre (cc))
     (λ c. search (needs, after-refused)) (λ c. search (needs, after-accepted)))

@@ -5,16 +5,9 @@ use borrow.Author.Needs.{needs}
 use Rattle.taskset.proofs.demand.Statement.{statement}
 use Rattle.taskset.proofs.demand.Tie as tie
 
-jobs-requires : tie.Need-jobs-requires
-jobs-requires c κs = let p = c .before .before .pre in (p .0 .periods _ (p .2) .0, rw (p .1) (p .0 .multiple))
-
-mul-result-2 : tie.Need-mul-result-2
-mul-result-2 c = let p = c .before .before .before .pre in fits-below tt (demand-fits (p .0) (p .2) (p .1) (c .jobs .ensures))
-
-returns : tie.Need-returns
-returns c = let p = c .before .before .before .pre in demand-by (p .0) (p .2) (p .1) (c .jobs .ensures)
-
 pub demand-spec : {M : Type 1} → statement M
 demand-spec =
-    tie.close (tie.spec (λ c. search needs) (λ c. search needs) (λ c. search needs) (λ c. search needs) jobs-requires
-    mul-result-2 returns)
+    tie.close (tie.spec (λ c. search needs) (λ c. search needs) (λ c. search needs) (λ c. search needs)
+    (λ c κs. let p = c .before .before .pre in (p .0 .periods _ (p .2) .0, rw (p .1) (p .0 .multiple)))
+    (λ c. let p = c .before .before .before .pre in fits-below tt (demand-fits (p .0) (p .2) (p .1) (c .jobs .ensures)))
+    (λ c. let p = c .before .before .before .pre in demand-by (p .0) (p .2) (p .1) (c .jobs .ensures)))

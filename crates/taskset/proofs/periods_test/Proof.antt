@@ -5,8 +5,7 @@ use borrow.Author.Needs.{needs}
 use Rattle.taskset.proofs.periods_test.Statement.{statement}
 use Rattle.taskset.proofs.periods_test.Tie as tie
 
-returns : tie.Need-returns
-returns c = refuse-at-by Period (c .refuse-if .ensures) (c .before .first-bad-period .ensures)
-
 pub periods-test-spec : {M : Type 1} → statement M
-periods-test-spec = tie.close (tie.spec (λ c κs. search needs) (λ c κs. search needs) returns)
+periods-test-spec =
+    tie.close (tie.spec (λ c κs. search needs) (λ c κs. search needs)
+    (λ c. refuse-at-by Period (c .refuse-if .ensures) (c .before .first-bad-period .ensures)))
