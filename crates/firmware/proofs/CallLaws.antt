@@ -2,7 +2,7 @@
 use Prim.Native.Nat.{ℕ, _+_, _≤_, _<_}
 use mathlib.Core.Path.{_≡_, refl, sym, _∙_, ap}
 use mathlib.Core.List.{List, _++_}
-use mathlib.Core.Logic.{_⊎_, inl, inr, _↔_, _≢_}
+use mathlib.Core.Logic.{⊎-elim, _↔_, _≢_}
 use lib.ListN.{length, take, drop}
 use lib.Seq.{take-at, drop-at, length-take-le}
 use native.Mathlib.Omega.{arith}
@@ -16,7 +16,7 @@ use Rattle.refusal.specs.declared.Outcome.{Outcome}
 use Rattle.refusal.specs.declared.Outcome.the-variants as outcome
 use Rattle.refusal.proofs.CauseLaws.{number-range}
 use Rattle.refusal.proofs.TestLaws.{accepted≢refused, outcome-cases, then-accepted, then-refused}
-use Rattle.refusal.proofs.ConditionLaws.{none-first, first-given, test-only, Tested, join, decides, accepts}
+use Rattle.refusal.proofs.ConditionLaws.{none-first, first-given, test-only, _also_, Tested, join, decides, accepts}
 use Rattle.taskset.specs.declared.Reading.{Reading}
 use Rattle.taskset.proofs.ReadingLaws.{reading-outcome}
 use Rattle.stored.specs.Form.{taskCount, fieldsOf}
@@ -53,17 +53,17 @@ code-planned Short e = omega arith
 code-planned Spent e = omega arith
 code-planned (Refused c) e = absurd (accepted≢refused e refl)
 
-code-spent : (v : Verdict) → (codeOf v ≡ 2) ↔ (v ≡ Spent)
-code-spent All = (λ e. absurd (omega arith), λ e. absurd (let z : _≡_ {A = ℕ} 0 1 = cc in omega arith))
-code-spent Short = (λ e. absurd (omega arith), λ e. absurd (let z : _≡_ {A = ℕ} 0 1 = cc in omega arith))
-code-spent Spent = (λ e. refl, λ e. refl)
-code-spent (Refused c) = (λ e. absurd (omega arith), λ e. absurd (let z : _≡_ {A = ℕ} 0 1 = cc in omega arith))
+code-spent : (v : Verdict) → codeOf v ≡ 2 → v ≡ Spent
+code-spent All e = absurd (omega arith)
+code-spent Short e = absurd (omega arith)
+code-spent Spent e = refl
+code-spent (Refused c) e = absurd (omega arith)
 
-code-all : (v : Verdict) → (codeOf v ≡ 0) ↔ (v ≡ All)
-code-all All = (λ e. refl, λ e. refl)
-code-all Short = (λ e. absurd (omega arith), λ e. absurd (let z : _≡_ {A = ℕ} 0 1 = cc in omega arith))
-code-all Spent = (λ e. absurd (omega arith), λ e. absurd (let z : _≡_ {A = ℕ} 0 1 = cc in omega arith))
-code-all (Refused c) = (λ e. absurd (omega arith), λ e. absurd (let z : _≡_ {A = ℕ} 0 1 = cc in omega arith))
+code-all : (v : Verdict) → codeOf v ≡ 0 → v ≡ All
+code-all All e = refl
+code-all Short e = absurd (omega arith)
+code-all Spent e = absurd (omega arith)
+code-all (Refused c) e = absurd (omega arith)
 
 -- The steps of the program.
 pub code-fits : (k : ℕ) (c : Cause) {x : ℕ} → k ≤ 1000 → x ≡ numberOf c → k + x < 4294967296
@@ -94,13 +94,12 @@ module _ (s : List ℕ) (room : ℕ) {g : Reading} (e : g ≡ readingOf s) {fits
 
   pub outcome-is : o ≡ callOutcome s room
   unfolding callOutcome
-  outcome-is = go (outcome-cases (g .outcome))
-    where
-      go : (g .outcome ≡ outcome.Accepted) ⊎ ((c : Cause) × (g .outcome ≡ outcome.Refused c)) → o ≡ tableOutcome s then bufferTest (taskCount s) room
-      go (inl q) = rw (← reading-says, ← count-is q, ← f) p
-      go (inr q) =
-          p ∙ then-refused (g .outcome) fits (q .0) (q .1)
-          ∙ sym (then-refused (tableOutcome s) (bufferTest (taskCount s) room) (q .0) (sym reading-says ∙ q .1))
+  outcome-is =
+      ⊎-elim
+      (λ q. rw (← reading-says, ← count-is q, ← f) p)
+      (λ q. p ∙ then-refused (g .outcome) fits (q .0) (q .1)
+      ∙ sym (then-refused (tableOutcome s) (bufferTest (taskCount s) room) (q .0) (sym reading-says ∙ q .1)))
+      (outcome-cases (g .outcome))
 
   -- what an accepted call is given
   module _ (q : o ≡ outcome.Accepted) where
@@ -121,23 +120,18 @@ module _ (s : List ℕ) (limit : ℕ) (buffer : List ℕ) {g : Reading} (e : g �
 
   pub call-refused : {c : Cause} {code : ℕ} → o ≡ outcome.Refused c → code ≡ codeOf (Refused c) → Promises s limit buffer code buffer
   unfolding codeFor codeBy bufferAfter bufferBy
-  call-refused {c} q h = (
-    rw (← same, q) h,
-    (
-      rw (← same, q),
-      (
-        record {
-          accepted = (λ g. absurd (omega arith), λ v. absurd (accepted≢refused (call-accepts s (length buffer) .1 (v .table, v .fits)) (sym same ∙ q)));
-          refused = λ k. (
-            λ g. let d : k ≡ numberOf c = omega arith in (placeOf c, rw d (call-tested s (length buffer) .reports .refused c (sym same ∙ q))),
-            λ x. h ∙ ap (λ y. 100 + y) (ap numberIn (sym q ∙ same) ∙ first-given (call-tested s (length buffer) .reports) (x .1) .0),
-          );
-          untouched = λ g. refl;
-        },
-        λ g. absurd (omega arith),
-      ),
-    ),
-  )
+  call-refused {c} q h =
+      (rw (← same, q) h)
+      also (rw (← same, q))
+      also record {
+        accepted = (λ g. absurd (omega arith), λ v. absurd (accepted≢refused (call-accepts s (length buffer) .1 (v .table, v .fits)) (sym same ∙ q)));
+        refused = λ k. (
+          λ g. let d : k ≡ numberOf c = omega arith in (placeOf c, rw d (call-tested s (length buffer) .reports .refused c (sym same ∙ q))),
+          λ x. h ∙ ap (λ y. 100 + y) (ap numberIn (sym q ∙ same) ∙ first-given (call-tested s (length buffer) .reports) (x .1) .0),
+        );
+        untouched = λ g. refl;
+      }
+      also (λ g. absurd (omega arith))
 
   module _ (q : o ≡ outcome.Accepted) {r : Allocation} (w : r ≡ planFor (g .tasks .fields) limit) (l : length (r .placement) ≡ 16)
       {code : ℕ} {after : List ℕ} (h : code ≡ codeOf (r .verdict)) (t : after ≡ take (g .tasks .fields .n) (r .placement) ++ drop (g .tasks .fields .n) buffer) where
@@ -164,10 +158,10 @@ module _ (s : List ℕ) (limit : ℕ) (buffer : List ℕ) {g : Reading} (e : g �
     kept =
         let k = plan-promised s limit plan-is .promise (valid .table) in
         record {
-          spent = (λ x. k .spent .0 (code-spent (r .verdict) .0 (sym h ∙ x)), λ x. h ∙ code-spent (r .verdict) .1 (k .spent .1 x));
+          spent = (λ x. k .spent .0 (code-spent (r .verdict) (sym h ∙ x)), λ x. h ∙ ap codeOf (k .spent .1 x));
           all = λ n.
-              let u : r .verdict ≢ Spent = λ x. n (h ∙ code-spent (r .verdict) .1 x) in
-              (λ x. k .all u .0 (code-all (r .verdict) .0 (sym h ∙ x)), λ x. h ∙ code-all (r .verdict) .1 (k .all u .1 x));
+              let u : r .verdict ≢ Spent = λ x. n (h ∙ ap codeOf x) in
+              (λ x. k .all u .0 (code-all (r .verdict) (sym h ∙ x)), λ x. h ∙ ap codeOf (k .all u .1 x));
           plan = r;
           promise = k;
           written = rw after-is (take-at (take (taskCount s) (r .placement)) (drop (taskCount s) buffer) (taskCount s) front-long);
@@ -176,44 +170,29 @@ module _ (s : List ℕ) (limit : ℕ) (buffer : List ℕ) {g : Reading} (e : g �
 
     pub call-planned : Promises s limit buffer code after
     unfolding codeFor codeBy bufferAfter bufferBy
-    call-planned = (
-      rw (← same, q, ← plan-is) h,
-      (
-        rw (← same, q, ← plan-is) after-is,
-        (
-          record {
-            accepted = (λ g. valid, λ g. small);
-            refused = λ k. (
-              λ g. absurd (omega (arith, small)),
-              λ x. absurd (none-first (callConditions s (length buffer)) k (x .0) (call-tested s (length buffer) .reports .accepted (sym same ∙ q)) (x .1)),
-            );
-            untouched = λ g. absurd (omega (arith, small));
-          },
-          λ g. kept,
-        ),
-      ),
-    )
+    call-planned =
+        (rw (← same, q, ← plan-is) h)
+        also (rw (← same, q, ← plan-is) after-is)
+        also record {
+          accepted = (λ g. valid, λ g. small);
+          refused = λ k. (
+            λ g. absurd (omega (arith, small)),
+            λ x. absurd (none-first (callConditions s (length buffer)) k (x .0) (call-tested s (length buffer) .reports .accepted (sym same ∙ q)) (x .1)),
+          );
+          untouched = λ g. absurd (omega (arith, small));
+        }
+        also (λ g. kept)
 
 -- Demand 1 of the definitions.
 pub call-answers : (s buffer : List ℕ) (limit : ℕ) → Answers s buffer (codeFor s limit (length buffer)) (bufferAfter s limit buffer)
 unfolding planFor allocationOf
-call-answers s buffer limit = go (outcome-cases (readingOf s .outcome then bufferTest (readingOf s .tasks .fields .n) (length buffer)))
-  where
-    go : let o = readingOf s .outcome then bufferTest (readingOf s .tasks .fields .n) (length buffer) in
-        (o ≡ outcome.Accepted) ⊎ ((c : Cause) × (o ≡ outcome.Refused c)) → Answers s buffer (codeFor s limit (length buffer)) (bufferAfter s limit buffer)
-    go (inl q) = let w = call-planned s limit buffer refl refl refl q refl (length-row 0 _ _) refl refl in rw (← w .0, ← w .1 .0) (w .1 .1 .0)
-    go (inr q) = let w = call-refused s limit buffer refl refl refl (q .1) refl in rw (← w .0, ← w .1 .0) (w .1 .1 .0)
+call-answers s buffer limit =
+    ⊎-elim
+    (λ q. let w = call-planned s limit buffer refl refl refl q refl (length-row 0 _ _) refl refl in
+    rw (← w .0, ← w .1 .0) (w .1 .1 .0))
+    (λ q. let w = call-refused s limit buffer refl refl refl (q .1) refl in rw (← w .0, ← w .1 .0) (w .1 .1 .0))
+    (outcome-cases (readingOf s .outcome then bufferTest (readingOf s .tasks .fields .n) (length buffer)))
 
 -- A call whose code is a refusal's leaves its buffer as it was.
 pub refusal-writes-nothing : (s buffer : List ℕ) (limit : ℕ) → 100 ≤ codeFor s limit (length buffer) → bufferAfter s limit buffer ≡ buffer
-unfolding codeFor codeBy bufferAfter bufferBy
-refusal-writes-nothing s buffer limit h = go (outcome-cases (callOutcome s (length buffer)))
-  where
-    go : (callOutcome s (length buffer) ≡ outcome.Accepted) ⊎ ((c : Cause) × (callOutcome s (length buffer) ≡ outcome.Refused c))
-        → bufferBy (callOutcome s (length buffer)) (taskCount s) (planOf s limit) buffer ≡ buffer
-    go (inl e) =
-        let v = call-accepts s (length buffer) .0 e in
-        let small : codeOf (planOf s limit .verdict) ≤ 2 = code-planned (planOf s limit .verdict) (accepts (plan-decides s limit refl) .1 (v .0)) in
-        let high : 100 ≤ codeOf (planOf s limit .verdict) = rw e at h in
-        absurd (omega arith)
-    go (inr r) = rw (r .1)
+refusal-writes-nothing s buffer limit h = call-answers s buffer limit .untouched h

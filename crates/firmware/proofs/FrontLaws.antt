@@ -1,5 +1,5 @@
 -- The steps of a loop that copies to the front of a list and leaves what follows.
-use Prim.Native.Nat.{ℕ, suc, _+_, _≤_, _<_}
+use Prim.Native.Nat.{ℕ, _+_, _≤_, _<_}
 use mathlib.Core.Path.{_≡_, refl, _∙_}
 use mathlib.Core.List.{List, _++_, append-assoc}
 use lib.ListN.{length, getD, take, drop, set, length-set}
@@ -18,17 +18,6 @@ pub record Copied (xs ys : List ℕ) (n : ℕ) (zs : List ℕ) (k : ℕ) : Type 
 pub copy-start : (xs ys : List ℕ) (n : ℕ) → n ≤ length xs → n ≤ length ys → Copied xs ys n ys 0
 copy-start xs ys n h g = record { top = omega arith; source = h; room = g; size = refl; is = refl }
 
-front-next : (xs ys : List ℕ) (k : ℕ) → k < length xs → k < length ys
-    → set (take k xs ++ drop k ys) k (getD xs k 0) ≡ take (k + 1) xs ++ drop (k + 1) ys
-front-next xs ys k h g =
-    rw (
-      add-one,
-      drop-cons ys k 0 g,
-      set-at (take k xs) (getD ys k 0) (drop (suc k) ys) (getD xs k 0) k (length-take-le k xs (omega arith)),
-      take-suc xs k 0 h,
-      append-assoc,
-    )
-
 module _ {xs ys : List ℕ} {n : ℕ} {zs : List ℕ} {k : ℕ} where
   pub copy-next : Copied xs ys n zs k → k < n → Copied xs ys n (set zs k (getD xs k 0)) (k + 1)
   copy-next s h = record {
@@ -36,7 +25,10 @@ module _ {xs ys : List ℕ} {n : ℕ} {zs : List ℕ} {k : ℕ} where
     source = s .source;
     room = s .room;
     size = length-set zs k (getD xs k 0) ∙ s .size;
-    is = rw (s .is) (front-next xs ys k (omega (arith, s .source)) (omega (arith, s .room)));
+    is =
+        let front : length (take k xs) ≡ k = length-take-le k xs (omega (arith, s .source)) in
+        rw (s .is, add-one, drop-cons ys k 0 (omega (arith, s .room)), set-at _ _ _ _ k front)
+        (rw (take-suc xs k 0 (omega (arith, s .source)), append-assoc));
   }
 
   pub copy-done : Copied xs ys n zs k → n ≤ k → zs ≡ take n xs ++ drop n ys

@@ -13,7 +13,6 @@ use Rattle.taskset.specs.declared.Fields.{Fields}
 use Rattle.taskset.specs.declared.TaskSet.{TaskSet}
 use Rattle.planner.specs.declared.Allocation.{Allocation}
 use Rattle.planner.specs.declared.Verdict.{Verdict}
-use Rattle.planner.specs.declared.Verdict.the-variants.{All, Short, Spent, Refused}
 use Rattle.text.specs.Ascii.{ascii}
 use Rattle.text.specs.Decimal.{decimal, field}
 use Rattle.text.specs.Shown.{Appended}
@@ -51,23 +50,10 @@ pub summary-made : {t a b d r : Text} (plan : Allocation) → Appended t (verdic
 unfolding summaryLine
 summary-made plan p q u v = append-both (append-both (append-both p q) u) v
 
--- The words of the verdicts.
-module _ {t r : Text} {v : Verdict} where
-  pub word-all : v ≡ All → Appended t (ascii "all") 3 r → Appended t (verdictWord v) 7 r
-  unfolding verdictWord
-  word-all e p = rw e (append-within 7 p (omega arith))
-
-  pub word-short : v ≡ Short → Appended t (ascii "short") 5 r → Appended t (verdictWord v) 7 r
-  unfolding verdictWord
-  word-short e p = rw e (append-within 7 p (omega arith))
-
-  pub word-spent : v ≡ Spent → Appended t (ascii "spent") 5 r → Appended t (verdictWord v) 7 r
-  unfolding verdictWord
-  word-spent e p = rw e (append-within 7 p (omega arith))
-
-  pub word-refused : {cause : Cause} → v ≡ Refused cause → Appended t (ascii "refused") 7 r → Appended t (verdictWord v) 7 r
-  unfolding verdictWord
-  word-refused e p = rw e p
+-- The word of a verdict.
+pub word-made : {t r : Text} {v w : Verdict} {i : ℕ} → v ≡ w → Appended t (verdictWord w) i r → i ≤ 7
+    → Appended t (verdictWord v) 7 r
+word-made e p h = rw e (append-within 7 p h)
 
 -- The steps of the loop: the lines of the first k tasks are there.
 pub record Written (t : Text) (f : Fields) (cores : List ℕ) (r : Text) (k : ℕ) : Type 0 where

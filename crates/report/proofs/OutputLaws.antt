@@ -29,10 +29,6 @@ use Rattle.text.proofs.ClipLaws.{append-both, append-whole}
 use Rattle.report.specs.Output.{refusalLine, sizesLine, taskLines, summaryLine, planLines, linesBy, linesFor, outputOf}
 use Rattle.report.specs.Reported.{Reported}
 
-pub refusal-whole : {t r : Text} (cause : Cause) → shown t ≡ [] → Appended t (refusalLine (numberOf cause) (placeOf cause)) 50 r
-    → shown r ≡ refusalLine (numberOf cause) (placeOf cause)
-refusal-whole cause e p = append-whole e p (omega arith)
-
 pub plan-whole : {t a b r : Text} (s : TaskSet) (plan : Allocation) → shown t ≡ [] → Appended t (sizesLine s) 69 a
     → Appended a (taskLines (s .fields) (plan .placement) (s .fields .n)) 1344 b
     → Appended b (summaryLine plan) 50 r → shown r ≡ planLines s plan
@@ -94,14 +90,14 @@ gives-refused : (o : Outcome) (number place : ℕ) → 1 ≤ number → Gives o 
 gives-refused outcome.Accepted number place h g = absurd (omega (arith, g .0))
 gives-refused (outcome.Refused cause) number place h g = (cause, refl, g .0, g .1)
 
-output-reported : (s : List ℕ) {x : List ℕ} → x ≡ outputOf s → Reported s x
-output-reported s e = record {
-  planned = λ v. e ∙ lines-planned s (accepts (decides (table-tested s)) .1 v);
-  refused = λ number place h f.
-      let g = gives-refused (tableOutcome s) number place h (decides (table-tested s) .refused number place h .1 f) in
-      e ∙ lines-refused s (g .1) ∙ rw (g .2, g .3);
-}
-
 -- both clauses of `report`
 pub output-both : (s : List ℕ) {x : List ℕ} → x ≡ outputOf s → (x ≡ outputOf s) × Reported s x
-output-both s e = (e, output-reported s e)
+output-both s e = (
+  e,
+  record {
+    planned = λ v. e ∙ lines-planned s (accepts (decides (table-tested s)) .1 v);
+    refused = λ number place h f.
+        let g = gives-refused (tableOutcome s) number place h (decides (table-tested s) .refused number place h .1 f) in
+        e ∙ lines-refused s (g .1) ∙ rw (g .2, g .3);
+  },
+)

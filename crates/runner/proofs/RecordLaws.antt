@@ -2,46 +2,43 @@
 use Prim.Native.Nat.{ℕ, _+_}
 use mathlib.Core.Path.{_≡_, refl, sym, _∙_, ap}
 use mathlib.Core.List.{List}
-use mathlib.Core.Bool.{Bool, true, false, not, _||_, true≢false}
-use mathlib.Core.Logic.{inl, inr, _↔_}
+use mathlib.Core.Bool.{Bool, true, false, not, _||_, true≢false, not-eq-not}
+use mathlib.Core.Logic.{inl, inr}
 use lib.Dec.{eqb, ltb, leb}
 use native.Mathlib.Omega.{arith}
-use borrow.Author.Tests.{eqb-true, eqb-false, ltb-false, leb-false}
+use borrow.Author.Tests.{eqb-true, eqb-false, ltb-false, leb-false, not-false}
 use Rattle.numbers.proofs.BoolLaws.{or-false-left, or-false-right}
 use Rattle.numbers.proofs.FirstLaws.{Holds}
 use Rattle.refusal.specs.Tests.{refuseAt}
-use Rattle.refusal.specs.Conditions.{None, Decides}
+use Rattle.refusal.specs.Conditions.{Decides}
 use Rattle.refusal.specs.declared.Cause.the-variants.{Slot as WrongSlot}
 use Rattle.refusal.specs.declared.Outcome.the-variants.{Accepted, Refused}
 use Rattle.refusal.proofs.TestLaws.{refuseAt-zero, refuse-found}
-use Rattle.refusal.proofs.ConditionLaws.{Reports, test-at, decides}
+use Rattle.refusal.proofs.ConditionLaws.{test-at, decides}
 use Rattle.edf.specs.declared.Slot.{Slot}
-use Rattle.edf.specs.Slots.{emptySlot, slotAt, slotTest, firstSlot, cannotBe, firstWrong, InUse, CanBe}
+use Rattle.edf.specs.Slots.{slotAt, slotTest, firstSlot, cannotBe, firstWrong, CanBe}
 use Rattle.edf.proofs.StepLaws.{allowed}
 use Rattle.runner.specs.Records.{ValidRecord, recordConditions}
 
 not-zero : (x : ℕ) → not (eqb x 0) ≡ false → x ≡ 0
-not-zero x e = go (eqb x 0) refl
-  where
-    go : (b : Bool) → eqb x 0 ≡ b → x ≡ 0
-    go true q = eqb-true x 0 q
-    go false q = absurd (true≢false (rw q at e))
+not-zero x e = eqb-true x 0 (not-false (eqb x 0) e)
 
 -- where the test does not hold, the slot can be
 can-be : (charge : ℕ) (s : Slot) → cannotBe charge s ≡ false → CanBe charge s
 can-be charge s e = go (eqb (s .period) 0) refl
   where
-    zeros : (not (eqb (s .budget) 0) || not (eqb (s .until) 0) || not (eqb (s .remaining) 0)) ≡ false → s .period ≡ 0 → s ≡ emptySlot
-    zeros a p =
+    go : (b : Bool) → eqb (s .period) 0 ≡ b → CanBe charge s
+    go true q =
+        let a = or-false-left _ false (rw q at e) in
         let b = or-false-left _ (not (eqb (s .remaining) 0)) a in
+        let p = eqb-true (s .period) 0 q in
         let x = not-zero (s .budget) (or-false-left _ (not (eqb (s .until) 0)) b) in
         let y = not-zero (s .until) (or-false-right (not (eqb (s .budget) 0)) _ b) in
         let z = not-zero (s .remaining) (or-false-right (not (eqb (s .budget) 0) || not (eqb (s .until) 0)) _ a) in
-        λ i. record { period = p i; budget = x i; until = y i; remaining = z i }
-
-    used : (ltb 10000 (s .period) || eqb (s .budget) 0 || ltb (s .period) (s .budget + charge) || leb (s .period) (s .until) || ltb (s .budget + charge) (s .remaining)) ≡ false
-        → (s .period ≡ 0 → ⊥) → InUse charge s
-    used a n =
+        inl (λ i. record { period = p i; budget = x i; until = y i; remaining = z i })
+    go false q =
+        let a = rw q at e in
+        let n : s .period ≡ 0 → ⊥ = eqb-false (s .period) 0 q in
         let b = or-false-left _ (ltb (s .budget + charge) (s .remaining)) a in
         let c = or-false-left _ (leb (s .period) (s .until)) b in
         let d = or-false-left _ (ltb (s .period) (s .budget + charge)) c in
@@ -50,38 +47,22 @@ can-be charge s e = go (eqb (s .period) 0) refl
         let q = ltb-false (s .period) (s .budget + charge) (or-false-right (ltb 10000 (s .period) || eqb (s .budget) 0) _ c) in
         let u = leb-false (s .period) (s .until) (or-false-right (ltb 10000 (s .period) || eqb (s .budget) 0 || ltb (s .period) (s .budget + charge)) _ b) in
         let r = ltb-false (s .budget + charge) (s .remaining) (or-false-right (ltb 10000 (s .period) || eqb (s .budget) 0 || ltb (s .period) (s .budget + charge) || leb (s .period) (s .until)) _ a) in
-        record { period-in = (omega arith, p); budget-in = (omega arith, q); until-in = u; remaining-in = r }
-
-    go : (b : Bool) → eqb (s .period) 0 ≡ b → CanBe charge s
-    go true q = inl (zeros (or-false-left _ false (rw q at e)) (eqb-true (s .period) 0 q))
-    go false q = inr (used (rw q at e) (eqb-false (s .period) 0 q))
+        inr (record { period-in = (omega arith, p); budget-in = (omega arith, q); until-in = u; remaining-in = r })
 
 module _ (charge : ℕ) (slots : List Slot) where
   wrong-says : (i : ℕ) → Holds (slotTest (cannotBe charge) slots) i → CanBe charge (slotAt slots i) → ⊥
   unfolding slotTest
   wrong-says i h c = true≢false (sym h ∙ allowed charge (slotAt slots i) c)
 
-  wrong-tests : (i : ℕ) → (CanBe charge (slotAt slots i) → ⊥) → Holds (slotTest (cannotBe charge) slots) i
-  unfolding slotTest
-  wrong-tests i n = go (cannotBe charge (slotAt slots i)) refl
-    where
-      go : (b : Bool) → cannotBe charge (slotAt slots i) ≡ b → cannotBe charge (slotAt slots i) ≡ true
-      go true e = e
-      go false e = absurd (n (can-be charge (slotAt slots i) e))
-
-  record-reports : Reports (recordConditions charge slots) (refuseAt (firstWrong charge slots) WrongSlot)
-  unfolding firstSlot
-  record-reports = test-at WrongSlot (λ k. (refl, refl)) (λ i. (wrong-says i, wrong-tests i))
-
-  record-valid : None (recordConditions charge slots) ↔ ValidRecord charge slots
-  record-valid = (λ n i h. go i (n .0 i h) (cannotBe charge (slotAt slots i)) refl, λ v. (λ i h n. n (v i h), tt))
-    where
-      go : (i : ℕ) → ((CanBe charge (slotAt slots i) → ⊥) → ⊥) → (b : Bool) → cannotBe charge (slotAt slots i) ≡ b → CanBe charge (slotAt slots i)
-      go i n true e = absurd (n (λ c. true≢false (sym e ∙ allowed charge (slotAt slots i) c)))
-      go i n false e = can-be charge (slotAt slots i) e
-
   record-decides : Decides (ValidRecord charge slots) (recordConditions charge slots) (refuseAt (firstWrong charge slots) WrongSlot)
-  record-decides = decides (record { reports = record-reports; valid = record-valid })
+  unfolding firstSlot slotTest
+  record-decides = decides (record {
+    reports = test-at WrongSlot (λ k. (refl, refl)) (λ i. (wrong-says i, λ n. not-eq-not .0 (λ e. n (can-be charge _ e))));
+    valid = (
+      λ n i h. can-be charge (slotAt slots i) (not-eq-not .0 (λ e. n .0 i h (wrong-says i e))),
+      λ v. (λ i h n. n (v i h), tt),
+    );
+  })
 
   -- what the promise says at each end of the program
   module _ {wrong : ℕ} (e : wrong ≡ firstWrong charge slots) where

@@ -12,7 +12,7 @@ use lib.Seq.{take-all, drop-cons, take-suc, take-suc-set, drop-set-lt}
 use borrow.Author.Count.{below-more}
 use borrow.Author.Tests.{ne-eqb}
 use Rattle.numbers.specs.First.{first, firstFrom, IsFirst}
-use Rattle.numbers.proofs.FirstLaws.{Seeking, seek-start, looked-on, looked-found, seek-none, Holds, first-zero, first-is, first-clear, first-unique}
+use Rattle.numbers.proofs.FirstLaws.{Holds, first-zero, first-is, first-clear, first-unique}
 use Rattle.edf.specs.declared.Slot.{Slot}
 use Rattle.edf.specs.declared.Claim.{Claim}
 use Rattle.edf.specs.Slots.{emptySlot, occupied, slotAt, slotTest, firstSlot, eachFrom, each}
@@ -29,29 +29,11 @@ getD-any [] i d e h = absurd (omega arith)
 getD-any (x ∷ l) zero d e h = refl
 getD-any (x ∷ l) (suc i) d e h = getD-any l i d e (omega arith)
 
--- A loop that looks for the first slot of which a test holds: it holds of none before i.
-pub record Scanning (test : Slot → Bool) (slots : List Slot) (i : ℕ) : Type 0 where
-  pub size : length slots ≡ 16
-  pub seeks : Seeking (slotTest test slots) 16 i
-
-pub scan-start : (test : Slot → Bool) (slots : List Slot) → length slots ≡ 16 → Scanning test slots 0
-scan-start test slots h = record { size = h; seeks = seek-start (slotTest test slots) 16 }
-
-module _ {test : Slot → Bool} {slots : List Slot} {i : ℕ} (s : Scanning test slots i) where
-  tested : (d : Slot) {r : Bool} → i < 16 → r ≡ test (getD slots i d) → r ≡ slotTest test slots i
-  unfolding slotTest
-  tested d h e = e ∙ ap test (getD-any slots i d emptySlot (omega (arith, s .size)))
-
-  pub scan-next : (d : Slot) {r : Bool} → i < 16 → r ≡ test (getD slots i d) → r ≡ false → Scanning test slots (i + 1)
-  scan-next d h e f = record { size = s .size; seeks = looked-on (s .seeks) h (tested d h e) f }
-
-  pub scan-found : (d : Slot) {r : Bool} → i < 16 → r ≡ test (getD slots i d) → r ≡ true → i + 1 ≡ firstSlot test slots
-  unfolding firstSlot
-  scan-found d h e f = looked-found (s .seeks) h (tested d h e) f
-
-  pub scan-none : 16 ≤ i → 0 ≡ firstSlot test slots
-  unfolding firstSlot
-  scan-none h = seek-none (s .seeks) h
+-- A loop that looks for the first slot of which a test holds: the test of the slot at i.
+pub tested : (test : Slot → Bool) (slots : List Slot) (i : ℕ) (d : Slot) {r : Bool} → length slots ≡ 16 → i < 16
+    → r ≡ test (getD slots i d) → r ≡ slotTest test slots i
+unfolding slotTest
+tested test slots i d size h e = e ∙ ap test (getD-any slots i d emptySlot (omega arith))
 
 -- The first index below i + 1, from that below i.
 first-more : (p : ℕ → Bool) (i : ℕ) → first p (i + 1) ≡ cond (eqb (first p i) 0 && p i) (i + 1) (first p i)
@@ -126,41 +108,28 @@ module _ (charge : ℕ) (requests : List ℕ) {start slots : List Slot} {i : ℕ
   release-done h = sweep-done s h
 
 -- steps 2 and 3 as one change of each slot
-unfoldable pub advancing : ℕ → ℕ → Slot → Slot
-advancing task k s = advance k (run task k s)
+pub advance-done : (task : ℕ) {start slots : List Slot} {i : ℕ} → Sweeping (λ k s. advance k (run task k s)) start slots i
+    → 16 ≤ i → slots ≡ advanceAll task start
+unfolding advanceAll
+advance-done task {start} s h = sweep-done s h ∙ sym (each-each (run task) advance 1 start)
 
-module _ (task : ℕ) {start slots : List Slot} {i : ℕ} (s : Sweeping (advancing task) start slots i) where
-  pub advance-next : (d : Slot) {y : Slot} → i < 16 → y ≡ advance (i + 1) (run task (i + 1) (getD slots i d)) → Sweeping (advancing task) start (set slots i y) (i + 1)
-  unfolding advancing
-  advance-next d h e = sweep-next s d h e
+-- a slot with its two fields that fall, each by its test
+abbrev pub falling : Slot → Bool → Bool → Slot
+falling s a b = record {
+  period = s .period;
+  budget = s .budget;
+  until = cond b (s .until - 1) (s .until);
+  remaining = cond a (s .remaining - 1) (s .remaining);
+}
 
-  pub advance-done : 16 ≤ i → slots ≡ advanceAll task start
-  unfolding advancing advanceAll
-  advance-done h = sweep-done s h ∙ sym (each-each (run task) advance 1 start)
-
--- a slot with its two fields that fall
-pub advance-slot : (task k : ℕ) (s : Slot)
-    → record {
-      period = s .period;
-      budget = s .budget;
-      until = cond (occupied s) (s .until - 1) (s .until);
-      remaining = cond (eqb k task) (s .remaining - 1) (s .remaining);
-    }
-    ≡ advance k (run task k s)
-advance-slot task k s = go (eqb k task)
+pub advance-slot : (task k : ℕ) (s : Slot) → falling s (eqb k task) (occupied s) ≡ advance k (run task k s)
+advance-slot task k s = go (eqb k task) (occupied s) refl
   where
-    falls : (remaining : ℕ) (b : Bool)
-        → record { period = s .period; budget = s .budget; until = cond b (s .until - 1) (s .until); remaining = remaining }
-        ≡ cond {A = Slot} b (record { period = s .period; budget = s .budget; until = s .until - 1; remaining = remaining })
-        (record { period = s .period; budget = s .budget; until = s .until; remaining = remaining })
-    falls remaining true = refl
-    falls remaining false = refl
-
-    go : (a : Bool)
-        → record { period = s .period; budget = s .budget; until = cond (occupied s) (s .until - 1) (s .until); remaining = cond a (s .remaining - 1) (s .remaining) }
-        ≡ advance k (cond a (ran s) s)
-    go true = falls (s .remaining - 1) (occupied s)
-    go false = falls (s .remaining) (occupied s)
+    go : (a b : Bool) → occupied s ≡ b → falling s a b ≡ advance k (cond a (ran s) s)
+    go true true e = rw e
+    go true false e = rw e
+    go false true e = rw e
+    go false false e = rw e
 
 pub advance-fields : (task k : ℕ) (s : Slot) (until remaining : ℕ) → until ≡ cond (occupied s) (s .until - 1) (s .until)
     → remaining ≡ cond (eqb k task) (s .remaining - 1) (s .remaining)
@@ -184,19 +153,15 @@ soonest-more : (c : Claim) (cs : List Claim) (d : Claim) → soonest c (cs ++ (d
 soonest-more c [] d = refl
 soonest-more c (b ∷ cs) d = soonest-more (cond (ltb (b .deadline) (c .deadline)) b c) cs d
 
+consIf-append : (b : Bool) (c : Claim) (cs ds : List Claim) → consIf b c (cs ++ ds) ≡ consIf b c cs ++ ds
+consIf-append true c cs ds = refl
+consIf-append false c cs ds = refl
+
 claims-more : (k : ℕ) (slots : List Slot) (s : Slot)
     → claimsFrom k (slots ++ (s ∷ [])) ≡ claimsFrom k slots ++ consIf (ltb 0 (s .remaining)) (record { task = k + length slots; deadline = s .until }) []
 claims-more k [] s = rw (add-zero k) refl
-claims-more k (r ∷ slots) s = go (ltb 0 (r .remaining)) (rw (suc-add k (length slots), ← add-suc k (length slots)) at (claims-more (suc k) slots s))
-  where
-    new : List Claim
-    new = consIf (ltb 0 (s .remaining)) (record { task = k + suc (length slots); deadline = s .until }) []
-
-    go : (b : Bool) → claimsFrom (suc k) (slots ++ (s ∷ [])) ≡ claimsFrom (suc k) slots ++ new
-        → consIf b (record { task = k; deadline = r .until }) (claimsFrom (suc k) (slots ++ (s ∷ [])))
-        ≡ consIf b (record { task = k; deadline = r .until }) (claimsFrom (suc k) slots) ++ new
-    go true e = rw e refl
-    go false e = e
+claims-more k (r ∷ slots) s =
+    rw (claims-more (suc k) slots s, suc-add, ← add-suc) (consIf-append (ltb 0 (r .remaining)) _ _ _)
 
 -- the best of the claims with one slot more
 best-more : (k : ℕ) (s : Slot) (cs : List Claim) → ((c : Claim) → In c cs → 1 ≤ c .task)

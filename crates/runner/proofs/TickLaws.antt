@@ -1,11 +1,11 @@
 -- A tick by its parts.
 use Prim.Native.Nat.{ℕ, _+_, min}
 use mathlib.Core.Path.{_≡_}
-use mathlib.Core.Bool.{Bool, true, false, cond}
 use mathlib.Core.List.{List}
 use native.Mathlib.Nat.{add-zero}
 use lib.Dec.{eqb}
 use borrow.Author.Tests.{eq-eqb, ne-eqb}
+use Rattle.numbers.proofs.BoolLaws.{cond-both}
 use Rattle.refusal.specs.declared.Outcome.the-variants.{Accepted, Refused}
 use Rattle.refusal.specs.declared.Cause.the-variants.{Slot as WrongSlot}
 use Rattle.edf.specs.declared.Slot.{Slot}
@@ -17,11 +17,8 @@ use Rattle.runner.specs.Answers.{tickAnswer}
 -- Where there is no charge a task is owed the smaller of request and budget.
 pub owed-uncharged : (budget asked : ℕ) → owedFor 0 budget asked ≡ min asked budget
 unfolding owedFor
-owed-uncharged budget asked = go (eqb asked 0)
-  where
-    go : (b : Bool) → min asked budget + cond b 0 0 ≡ min asked budget
-    go true = add-zero (min asked budget)
-    go false = add-zero (min asked budget)
+owed-uncharged budget asked =
+    cond-both (λ n. min asked budget + n ≡ min asked budget) (eqb asked 0) 0 0 (add-zero _) (add-zero _)
 
 module _ (charge : ℕ) (core : Core) (requests : List ℕ) (wrong : ℕ) (e : wrong ≡ firstWrong charge (core .slots)) where
   pub tick-refused : (wrong ≡ 0 → ⊥) → tickAnswer (record { core = core; run = 0; late = 0; outcome = Refused (WrongSlot wrong) }) ≡ tick charge (core .slots) requests

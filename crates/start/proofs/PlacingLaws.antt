@@ -6,19 +6,17 @@ use mathlib.Core.List.{List}
 use native.Mathlib.Omega.{arith}
 use native.Mathlib.Numerals.{add-one}
 use lib.Dec.{eqb, ltb}
-use lib.ListN.{length, getD, take, set, replicate}
+use lib.ListN.{length, getD, take}
 use Rattle.numbers.specs.Loads.{demandOn}
 use Rattle.numbers.specs.Rows.{entry}
 use Rattle.numbers.proofs.BoolLaws.{cond-le}
 use Rattle.numbers.proofs.LoadLaws.{demandOn-take-zero, demandOn-take-suc}
-use Rattle.numbers.proofs.RowLaws.{Filled, fill-start, fill-next, fill-done}
 use Rattle.taskset.specs.declared.Fields.{Fields}
 use Rattle.taskset.specs.declared.TaskSet.{TaskSet}
 use Rattle.taskset.specs.Limits.{Checked}
 use Rattle.taskset.proofs.DemandLaws.{demands-small}
 use Rattle.edf.specs.declared.Slot.{Slot}
-use Rattle.edf.specs.Slots.{emptySlot}
-use Rattle.edf.specs.Fresh.{freshSlot, freshSlots}
+use Rattle.edf.specs.Fresh.{freshSlot}
 use Rattle.start.specs.Starts.{placedTasks, loadOf, slotFor}
 
 -- A loop that adds the demands on a core: those of the tasks before k are added.
@@ -32,15 +30,12 @@ pub add-start : (t : TaskSet) (placement : List ℕ) (core : ℕ) → Checked t 
 add-start t placement core d = record { top = omega arith; checked = d; is = sym (demandOn-take-zero core (t .demands) placement); bound = omega arith }
 
 module _ {t : TaskSet} {placement : List ℕ} {core sum k : ℕ} (s : Adding t placement core sum k) where
-  pub few-tasks : t .fields .n ≤ 16
-  few-tasks = s .checked .within .sizes .tasks .1
-
   module _ {on : Bool} {part : ℕ} (h : k < t .fields .n) (e : on ≡ (ltb k (length placement) && eqb (getD placement k 0) core)) (q : part ≡ cond on (entry (t .demands) k) 0) where
     part-most : part ≤ 1000000
     part-most = rw q (cond-le on (entry (t .demands) k) 1000000 (demands-small (s .checked) k h))
 
-    pub add-fits : sum + part ≤ 16000000
-    add-fits = omega (arith, part-most, s .bound, few-tasks)
+    pub add-fits : sum + part < 4294967296
+    add-fits = omega (arith, part-most, s .bound, s .checked .within .sizes .tasks .1)
 
     pub add-next : Adding t placement core (sum + part) (k + 1)
     add-next = record {
@@ -54,19 +49,8 @@ module _ {t : TaskSet} {placement : List ℕ} {core sum k : ℕ} (s : Adding t p
   unfolding loadOf
   add-done h = let e : k ≡ t .fields .n = omega (arith, s .top) in rw e at (s .is)
 
--- A loop that fills the slots of a fresh record: those of the tasks before k are there.
-pub record Filling (f : Fields) (placement : List ℕ) (core : ℕ) (slots : List Slot) (k : ℕ) : Type 0 where
-  pub fills : Filled emptySlot (f .n) (freshSlot (placedTasks f placement) core) slots k
-
-pub filling-start : (f : Fields) (placement : List ℕ) (core : ℕ) → f .n ≤ 16 → Filling f placement core (replicate 16 emptySlot) 0
-filling-start f placement core h = record { fills = fill-start emptySlot (f .n) _ h }
-
-module _ {f : Fields} {placement : List ℕ} {core : ℕ} {slots : List Slot} {k : ℕ} (s : Filling f placement core slots k) where
-  pub filling-next : {v : Slot} {placed : ℕ} → k < f .n → placed ≡ entry placement k → v ≡ slotFor (entry (f .periods) k) (entry (f .budgets) k) placed core
-      → Filling f placement core (set slots k v) (k + 1)
-  unfolding freshSlot
-  filling-next h e q = record { fills = fill-next (s .fills) h (rw e at q) }
-
-  pub filling-done : f .n ≤ k → slots ≡ freshSlots (placedTasks f placement) core
-  unfolding freshSlots
-  filling-done h = fill-done (s .fills) h
+-- A loop that fills the slots of a fresh record: the slot of task k.
+pub slot-made : (f : Fields) (placement : List ℕ) (core k : ℕ) {v : Slot} {placed : ℕ} → placed ≡ entry placement k
+    → v ≡ slotFor (entry (f .periods) k) (entry (f .budgets) k) placed core → v ≡ freshSlot (placedTasks f placement) core k
+unfolding freshSlot
+slot-made f placement core k e q = rw e at q

@@ -5,7 +5,7 @@ use native.Mathlib.Decide.{decLt}
 use native.Mathlib.Omega.{arith}
 use mathlib.Core.Path.{_≡_, refl, sym, _∙_, ap}
 use mathlib.Core.Bool.{cond}
-use mathlib.Core.Logic.{_≢_}
+use mathlib.Core.Logic.{_≢_, by-cases}
 use mathlib.Core.List.{List}
 use borrow.Author.Tests.{eq-eqb, ne-eqb}
 use lib.Dec.{eqb}
@@ -18,7 +18,7 @@ use Rattle.numbers.proofs.BoundLaws.{outside-exactly, not-outside, less-exactly
 use Rattle.numbers.proofs.LoadLaws.{share, demand-listed}
 use Rattle.numbers.proofs.RowLaws.{length-row, getD-row, getD-row-above}
 use Rattle.numbers.proofs.SumLaws.{sumTo-cong}
-use Rattle.refusal.specs.Tests.{_then_, inOrder}
+use Rattle.refusal.specs.Tests.{inOrder}
 use Rattle.refusal.specs.Conditions.{Decides}
 use Rattle.refusal.specs.declared.Cause.{Cause}
 use Rattle.refusal.specs.declared.Cause.the-variants.{Placement, CoreNumber, Overload}
@@ -86,12 +86,9 @@ module _ (table placement : List ℕ) (core : ℕ) where
   by-outcome Accepted = refl
   by-outcome (Refused c) = refl
 
-  start-outcome : startOf table placement core .outcome ≡ startOutcome table placement core
-  unfolding startOf
-  start-outcome = by-outcome (startOutcome table placement core)
-
   pub start-decides : {r : Started} → r ≡ startOf table placement core → Decides (ValidStart table placement core) (startConditions table placement core) (r .outcome)
-  start-decides e = rw (e, start-outcome) (decides start-tested)
+  unfolding startOf
+  start-decides e = rw (e, by-outcome) (decides start-tested)
 
   -- the limits that the tick guarantee rests on
   module _ (w : Within (fieldsOf table)) (x : Exact (taskSetOf (fieldsOf table))) where
@@ -127,14 +124,12 @@ module _ (table placement : List ℕ) (core : ℕ) where
     unfolding freshSlots
     own-slot k h = rw e (getD-row emptySlot (fieldsOf table .n) slotOf k h few)
 
-    beyond-slot : (k : ℕ) → fieldsOf table .n ≤ k → k < 16 → slotAt slots k ≡ emptySlot
-    unfolding freshSlots
-    beyond-slot k h b = rw e (getD-row-above emptySlot (fieldsOf table .n) slotOf k h b)
-
-    other-slot : (k : ℕ) → k < 16 → (k < fieldsOf table .n → entry placement k ≢ core) → Dec (k < fieldsOf table .n) → slotAt slots k ≡ emptySlot
-    unfolding freshSlot
-    other-slot k b n (yes h) = own-slot k h ∙ rw (ne-eqb (entry placement k) core (n h))
-    other-slot k b n (no h) = beyond-slot k (omega arith) b
+    other-slot : (k : ℕ) → k < 16 → (k < fieldsOf table .n → entry placement k ≢ core) → slotAt slots k ≡ emptySlot
+    unfolding freshSlot freshSlots
+    other-slot k b n =
+        by-cases (decLt k (fieldsOf table .n))
+        (λ h. own-slot k h ∙ rw (ne-eqb (entry placement k) core (n h)))
+        (λ h. rw e (getD-row-above emptySlot (fieldsOf table .n) slotOf k (omega arith) b))
 
     on-slot : (k : ℕ) → k < fieldsOf table .n → entry placement k ≡ core
         → slotAt slots k ≡ record { period = entry (fieldsOf table .periods) k; budget = entry (fieldsOf table .budgets) k; until = 0; remaining = 0 }
@@ -148,8 +143,8 @@ module _ (table placement : List ℕ) (core : ℕ) where
       let w : Within (fieldsOf table) = v .0 .fields in
       let x : Exact tasks = taskSet-exact w in
       record {
-        own = λ k h q. on-slot (w .sizes .tasks .1) e k h q;
-        others = λ k b n. other-slot (w .sizes .tasks .1) e k b n (decLt k (fieldsOf table .n));
+        own = on-slot (w .sizes .tasks .1) e;
+        others = other-slot (w .sizes .tasks .1) e;
         ticks = tick-guarantee (tasks .hyperperiod) (entry (tasks .demands)) (placedTasks (fieldsOf table) placement) core
             (within-limits w x) (load-fits w x (v .1)) (λ k h _. w .periods k h .0) slots e;
       }
@@ -163,6 +158,13 @@ module _ (table placement : List ℕ) (core : ℕ) where
   pub start-promised : {r : Started} → r ≡ startOf table placement core → Starts table placement core r
   unfolding startOf
   start-promised e = rw e (promised (startOutcome table placement core) (accepts (decides start-tested) .0))
+
+  -- all that is said of the answer
+  pub start-all : {r : Started} → r ≡ startOf table placement core
+      → (r ≡ startOf table placement core)
+      × (Decides (ValidStart table placement core) (startConditions table placement core) (r .outcome)
+      × Starts table placement core r)
+  start-all e = (e, (start-decides e, start-promised e))
 
   -- The steps of the program.
   module _ {reading : Reading} (e : reading ≡ readingOf table) where
@@ -180,10 +182,7 @@ module _ (table placement : List ℕ) (core : ℕ) where
     unfolding startOf startOutcome readingOf taskSetOf
     start-checked a h =
         let same : reading .tasks ≡ tasks = ap (λ (x : Reading). x .tasks) e ∙ reading-accepted (tableOutcome table) (fieldsOf table) (sym (ap (λ (x : Reading). x .outcome) e) ∙ a) in
-        h
-        ∙ ap (λ (t : TaskSet). startBy (placingOutcome t placement core) (placedTasks (t .fields) placement) core) same
-        ∙ ap (λ (x : Outcome). startBy x (placedTasks (fieldsOf table) placement) core)
-        (sym (then-first (tableOutcome table) (placingOutcome tasks placement core) (sym table-outcome ∙ a)))
+        rw (then-first (tableOutcome table) (placingOutcome tasks placement core) (sym table-outcome ∙ a)) (rw same at h)
 
 -- The answer for a checked task set, by the outcome of its tests.
 module _ (t : TaskSet) (placement : List ℕ) (core : ℕ) {o : Outcome} (p : o ≡ placingOutcome t placement core) where

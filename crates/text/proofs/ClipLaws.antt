@@ -79,7 +79,4 @@ spell-next {t} {piece} {r} {next} {i} s h e = record {
 }
 
 pub spell-done : {t : Text} {piece : List ℕ} {r : Text} {i : ℕ} → Spelled t piece r i → length piece ≤ i → Appended t piece (length piece) r
-spell-done {t} {piece} {r} {i} s h =
-    let e : i ≡ length piece = omega (arith, s .top) in
-    let whole : take i piece ≡ piece = take-all i piece h in
-    rw e at (rw whole at (s .is))
+spell-done {piece = piece} {i = i} s h = append-within (length piece) (rw (take-all i piece h) at (s .is)) (s .top)

@@ -7,12 +7,6 @@ use Rattle.firmware.proofs.millplan_plan.Tie as tie
 plan-tasks-requires : tie.Need-plan-tasks-requires
 plan-tasks-requires c κs = c .before .before .before .before .before .read-table .ensures .1 .1 .checked (read-well _ _ (c .before .before .then .ensures) (cc))
 
-write-front-requires : tie.Need-write-front-requires
-write-front-requires c κs =
-    let e = c .before .before .before .before .before .before .before .before .read-table .ensures .0 in
-    let f = c .before .before .before .before .before .before .buffer-test .ensures in
-    (call-few _ _ e f (c .before .before .before .before .before .then .ensures) (cc), call-room _ _ e f (c .before .before .before .before .before .then .ensures) (cc))
-
 returns : tie.Need-returns
 returns c =
     call-refused _ _ _ (c .before .before .before .before .before .before .before .read-table .ensures .0) (c .before .before .before .before .before .buffer-test .ensures) (c .before .before .before .before .then .ensures) (c .before .before .outcome .given .1) (c .code .ensures)
@@ -24,5 +18,5 @@ returns-2 c =
 pub millplan-plan-spec : {M : Type 1} → statement M
 millplan-plan-spec =
     tie.close (tie.spec (λ c κs. search needs) (λ c κs. search needs) (λ c κs. search needs) (λ c. search needs)
-    (λ c κs. search needs) (λ c. search needs) plan-tasks-requires write-front-requires (λ c κs. search needs) returns
-    (λ c. search needs) returns-2)
+    (λ c κs. search needs) (λ c. search needs) plan-tasks-requires (λ c κs. search (needs, call-few, call-room))
+    (λ c κs. search needs) returns (λ c. search needs) returns-2)

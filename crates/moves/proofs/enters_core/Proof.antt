@@ -3,8 +3,5 @@ use borrow.Author.Needs.{needs}
 use Rattle.moves.proofs.enters_core.Statement.{statement}
 use Rattle.moves.proofs.enters_core.Tie as tie
 
-returns : tie.Need-returns
-returns c = rw (c .improves .ensures)
-
 pub enters-core-spec : {M : Type 1} → statement M
-enters-core-spec = tie.close (tie.spec (λ c κs. search needs) returns)
+enters-core-spec = tie.close (tie.spec (λ c κs. search needs) (λ c. rw (c .improves .ensures)))

@@ -5,8 +5,8 @@ use native.Mathlib.Nat.{lt-of-le-of-lt, mul-le-mul}
 use Rattle.moves.proofs.excess_of.Statement.{statement}
 use Rattle.moves.proofs.excess_of.Tie as tie
 
-mul-room : tie.Need-mul-room
-mul-room c = record { fits = lt-of-le-of-lt (mul-le-mul (c .pre .0) (c .pre .1)) (lit< tt) }
-
 pub excess-of-spec : {M : Type 1} → statement M
-excess-of-spec = tie.close (tie.spec (λ c. search needs) mul-room (λ c. search needs) (λ c. search needs))
+excess-of-spec =
+    tie.close (tie.spec (λ c. search needs)
+    (λ c. record { fits = lt-of-le-of-lt (mul-le-mul (c .pre .0) (c .pre .1)) (lit< tt) }) (λ c. search needs)
+    (λ c. search needs))

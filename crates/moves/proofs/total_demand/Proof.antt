@@ -15,35 +15,15 @@ Inv-loop n demands total₀ i₀ total i = (i ≤ n) × (total ≡ sum (take i d
 abbrev μ-loop : tie.MeasureT-loop
 μ-loop n demands total₀ i₀ total i = n - i
 
-loop-holds : tie.Need-loop-holds Inv-loop μ-loop
-loop-holds c = (omega arith, sym (sum-take-zero (c .args .t1)))
-
-mul-total : tie.Need-mul-total Inv-loop μ-loop
-mul-total c = omega arith
-
-array-read-total : tie.Need-array-read-total Inv-loop μ-loop
-array-read-total c = omega arith
-
 add-total : tie.Need-add-total Inv-loop μ-loop
 add-total c =
     let ds = c .before .before .args .t1 in
     let i = c .before .loop .i in
     omega (arith, sum-take-le 1000000 ds i (c .before .before .pre .1), c .before .before .pre .1 i)
 
-add-i : tie.Need-add-i Inv-loop μ-loop
-add-i c = omega arith
-
-loop-less : tie.Need-loop-less Inv-loop μ-loop
-loop-less c = omega arith
-
-loop-again : tie.Need-loop-again Inv-loop μ-loop
-loop-again c = (omega arith, rw add-one (omega (arith, sum-take-suc (c .before .before .args .t1) (c .before .loop .i))))
-
-returns : tie.Need-returns Inv-loop μ-loop
-returns c =
-    let e : c .before .loop .i ≡ c .before .before .args .n = omega arith in
-    rw (← e) (c .before .loop .inv .1)
-
 pub total-demand-spec : {M : Type 1} → statement M
 total-demand-spec =
-    tie.close (tie.spec Inv-loop μ-loop loop-holds mul-total array-read-total add-total add-i loop-less loop-again returns)
+    tie.close (tie.spec Inv-loop μ-loop (λ c. (omega arith, sym (sum-take-zero (c .args .t1)))) (λ c. omega arith)
+    (λ c. omega arith) add-total (λ c. omega arith) (λ c. omega arith)
+    (λ c. (omega arith, rw (add-one, sum-take-suc) (omega arith)))
+    (λ c. let e : c .before .loop .i ≡ c .before .before .args .n = omega arith in rw (← e) (c .before .loop .inv .1)))

@@ -11,11 +11,8 @@ Inv-loop slots best₀ i₀ best i = Choosing slots best i
 abbrev μ-loop : tie.MeasureT-loop
 μ-loop slots best₀ i₀ best i = 16 - i
 
-loop-holds : tie.Need-loop-holds Inv-loop μ-loop
-loop-holds c = choose-start _ (search needs)
-
 pub choose-spec : {M : Type 1} → statement M
 choose-spec =
-    tie.close (tie.spec Inv-loop μ-loop loop-holds (λ c. search needs) (λ c. search needs) (λ c. search needs)
-    (λ c κs. search needs) (λ c. search needs) (λ c. search needs) (λ c. search (needs, choose-next))
-    (λ c. search (needs, choose-done)))
+    tie.close (tie.spec Inv-loop μ-loop (λ c. choose-start _ (search needs)) (λ c. search needs) (λ c. search needs)
+    (λ c. search needs) (λ c κs. search needs) (λ c. search needs) (λ c. search needs)
+    (λ c. search (needs, choose-next)) (λ c. search (needs, choose-done)))

@@ -12,11 +12,8 @@ Inv-loop slots late₀ i₀ late i = Keeping isLate slots late i
 abbrev μ-loop : tie.MeasureT-loop
 μ-loop slots late₀ i₀ late i = 16 - i
 
-loop-holds : tie.Need-loop-holds Inv-loop μ-loop
-loop-holds c = keep-start _ _ (search needs)
-
 pub first-late-spec : {M : Type 1} → statement M
 first-late-spec =
-    tie.close (tie.spec Inv-loop μ-loop loop-holds (λ c. search needs) (λ c. search needs) (λ c. search needs)
-    (λ c κs. search needs) (λ c. search needs) (λ c. search needs) (λ c. search (needs, keep-next))
+    tie.close (tie.spec Inv-loop μ-loop (λ c. keep-start _ _ (search needs)) (λ c. search needs) (λ c. search needs)
+    (λ c. search needs) (λ c κs. search needs) (λ c. search needs) (λ c. search needs) (λ c. search (needs, keep-next))
     (λ c. search (needs, keep-done)))

@@ -12,11 +12,8 @@ Inv-loop requests next₀ i₀ next i = Sweeping (release 0 requests) next₀ ne
 abbrev μ-loop : tie.MeasureT-loop
 μ-loop requests next₀ i₀ next i = 16 - i
 
-loop-holds : tie.Need-loop-holds Inv-loop μ-loop
-loop-holds c = sweep-start _ _ (search needs)
-
 pub release-all-spec : {M : Type 1} → statement M
 release-all-spec =
-    tie.close (tie.spec Inv-loop μ-loop loop-holds (λ c. search needs) (λ c. search needs) (λ c. search needs)
-    (λ c. search needs) (λ c κs. search needs) (λ c. search needs) (λ c. search needs) (λ c. search needs)
-    (λ c. search needs) (λ c. search (needs, release-next)) (λ c. search (needs, release-done)))
+    tie.close (tie.spec Inv-loop μ-loop (λ c. sweep-start _ _ (search needs)) (λ c. search needs) (λ c. search needs)
+    (λ c. search needs) (λ c. search needs) (λ c κs. search needs) (λ c. search needs) (λ c. search needs)
+    (λ c. search needs) (λ c. search needs) (λ c. search (needs, release-next)) (λ c. search (needs, release-done)))

@@ -5,8 +5,7 @@ use borrow.Author.Needs.{needs}
 use Rattle.start.proofs.entries_test.Statement.{statement}
 use Rattle.start.proofs.entries_test.Tie as tie
 
-returns : tie.Need-returns
-returns c = refuse-at-by Placement (c .refuse-if .ensures) (c .before .first-above .ensures)
-
 pub entries-test-spec : {M : Type 1} → statement M
-entries-test-spec = tie.close (tie.spec (λ c κs. search needs) (λ c κs. search needs) returns)
+entries-test-spec =
+    tie.close (tie.spec (λ c κs. search needs) (λ c κs. search needs)
+    (λ c. refuse-at-by Placement (c .refuse-if .ensures) (c .before .first-above .ensures)))

@@ -3,8 +3,5 @@ use borrow.Author.Needs.{needs}
 use Rattle.start.proofs.is_on.Statement.{statement}
 use Rattle.start.proofs.is_on.Tie as tie
 
-returns : tie.Need-returns
-returns c = cc
-
 pub is-on-spec : {M : Type 1} → statement M
-is-on-spec = tie.close (tie.spec (λ c κs. search needs) returns)
+is-on-spec = tie.close (tie.spec (λ c κs. search needs) (λ c. cc))

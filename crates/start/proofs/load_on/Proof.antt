@@ -1,6 +1,5 @@
 -- The sum so far is the load of the tasks that were added.
 use Prim.Native.Nat.{_-_}
-use native.Mathlib.Omega.{arith}
 use Rattle.start.proofs.PlacingLaws.{Adding, add-start, add-fits, add-next, add-done}
 use borrow.Author.Needs.{needs}
 use Rattle.start.proofs.load_on.Statement.{statement}
@@ -12,11 +11,8 @@ Inv-loop placement core t sum₀ k₀ sum k = Adding t placement core sum k
 abbrev μ-loop : tie.MeasureT-loop
 μ-loop placement core t sum₀ k₀ sum k = t .fields .n - k
 
-add-sum : tie.Need-add-sum Inv-loop μ-loop
-add-sum c = omega (arith, add-fits (c .before .before .before .before .loop .inv) (c .before .before .before .loop-test .taken) (c .before .is-on .ensures) (c .share .ensures))
-
 pub load-on-spec : {M : Type 1} → statement M
 load-on-spec =
     tie.close (tie.spec Inv-loop μ-loop (λ c. search (needs, add-start)) (λ c. search needs) (λ c. search needs)
-    (λ c κs. search needs) (λ c κs. search needs) add-sum (λ c. search needs) (λ c. search needs)
-    (λ c. search (needs, add-next)) (λ c. search (needs, add-done)))
+    (λ c κs. search needs) (λ c κs. search needs) (λ c. search (needs, add-fits)) (λ c. search needs)
+    (λ c. search needs) (λ c. search (needs, add-next)) (λ c. search (needs, add-done)))

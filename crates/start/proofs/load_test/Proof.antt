@@ -3,8 +3,5 @@ use borrow.Author.Needs.{needs}
 use Rattle.start.proofs.load_test.Statement.{statement}
 use Rattle.start.proofs.load_test.Tie as tie
 
-returns : tie.Need-returns
-returns c = cc
-
 pub load-test-spec : {M : Type 1} → statement M
-load-test-spec = tie.close (tie.spec (λ c κs. search needs) (λ c κs. search needs) returns)
+load-test-spec = tie.close (tie.spec (λ c κs. search needs) (λ c κs. search needs) (λ c. cc))

@@ -5,11 +5,8 @@ use borrow.Author.Needs.{needs}
 use Rattle.start.proofs.placing_tests.Statement.{statement}
 use Rattle.start.proofs.placing_tests.Tie as tie
 
-returns : tie.Need-returns
-unfolding placingOutcome
-returns c = search (needs, order-step, order-last)
-
 pub placing-tests-spec : {M : Type 1} → statement M
+unfolding placingOutcome
 placing-tests-spec =
     tie.close (tie.spec (λ c κs. search needs) (λ c κs. search needs) (λ c κs. search needs) (λ c κs. search needs)
-    (λ c κs. search needs) (λ c κs. search needs) (λ c κs. search needs) returns)
+    (λ c κs. search needs) (λ c κs. search needs) (λ c κs. search needs) (λ c. search (needs, order-step, order-last)))

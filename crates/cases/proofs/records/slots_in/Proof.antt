@@ -13,11 +13,9 @@ Inv-loop bytes slots₀ k₀ slots k = Filled emptySlot 16 (slotIn bytes) slots 
 abbrev μ-loop : tie.MeasureT-loop
 μ-loop bytes slots₀ k₀ slots k = 16 - k
 
-loop-holds : tie.Need-loop-holds Inv-loop μ-loop
-loop-holds c = rw (c .empty .ensures) (fill-start _ _ _ (search needs))
-
 pub slots-in-spec : {M : Type 1} → statement M
 slots-in-spec =
-    tie.close (tie.spec Inv-loop μ-loop (λ c κs. search needs) loop-holds (λ c κs. search needs) (λ c. search needs)
+    tie.close (tie.spec Inv-loop μ-loop (λ c κs. search needs)
+    (λ c. rw (c .empty .ensures) (fill-start _ _ _ (search needs))) (λ c κs. search needs) (λ c. search needs)
     (λ c. search needs) (λ c. search needs) (λ c. search needs) (λ c. search (needs, fill-next))
     (λ c. search (needs, fill-done)))
