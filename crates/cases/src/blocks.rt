@@ -1,6 +1,6 @@
 // The blocks of a case: a length in two bytes, lowest first, then that many bytes.
 ghost use mathlib.Core.Path.{_≡_};
-ghost use mathlib.Core.Bool.{true};
+ghost use mathlib.Core.Bool.{true, false};
 ghost use lib.ListN.{drop};
 ghost use Rattle.io.specs.Counts.{Counts};
 ghost use Rattle.numbers.specs.Rows.{row};
@@ -15,6 +15,7 @@ pub struct Block {
 
 // Reads a block into the front of a buffer, which is as long as the block may be. What stands behind the bytes of a whole block stays as it was.
 pub fn read_block(buffer: &mut [u8]) -> Block
+    ensures none { λ r. ⌜ (r .whole ≡ false → r .length ≡ 0) ⌝ }
     ensures counts { λ r. ⌜ Counts (r .length) (now (buffer .exit)) ⌝ }
     ensures kept { λ r. ⌜ (r .whole ≡ true → drop (r .length) (now (buffer .exit)) ≡ drop (r .length) (now (buffer .entry))) ⌝ }
 {

@@ -18,11 +18,10 @@ use Rattle.refusal.proofs.CauseLaws.{number-range}
 use Rattle.refusal.proofs.TestLaws.{accepted≢refused, outcome-cases, then-accepted, then-refused}
 use Rattle.refusal.proofs.ConditionLaws.{none-first, first-given, test-only, _also_, Tested, join, decides, accepts}
 use Rattle.taskset.specs.declared.Reading.{Reading}
-use Rattle.taskset.proofs.ReadingLaws.{reading-outcome}
 use Rattle.stored.specs.Form.{taskCount, fieldsOf}
 use Rattle.stored.specs.Tests.{tableOutcome, readingOf}
 use Rattle.stored.specs.Limits.{Valid}
-use Rattle.stored.proofs.TableLaws.{table-tested}
+use Rattle.stored.proofs.TableLaws.{table-tested, read-outcome}
 use Rattle.planner.specs.Plan.{allocationOf, planFor, planOf, verdictOutcome}
 use Rattle.planner.proofs.PlanLaws.{fields-are, plan-accepted}
 use Rattle.planner.proofs.PromiseLaws.{plan-decides, plan-promised}
@@ -84,10 +83,6 @@ read-well a b p q = then-accepted a b (sym p ∙ q) .0
 
 module _ (s : List ℕ) (room : ℕ) {g : Reading} (e : g ≡ readingOf s) {fits : Outcome} (f : fits ≡ bufferTest (g .tasks .fields .n) room)
     {o : Outcome} (p : o ≡ g .outcome then fits) where
-  reading-says : g .outcome ≡ tableOutcome s
-  unfolding readingOf
-  reading-says = ap (λ x. x .outcome) e ∙ reading-outcome (tableOutcome s) (fieldsOf s)
-
   count-is : g .outcome ≡ outcome.Accepted → g .tasks .fields .n ≡ taskCount s
   unfolding fieldsOf
   count-is q = ap (λ f. f .n) (fields-are s e q)
@@ -96,9 +91,9 @@ module _ (s : List ℕ) (room : ℕ) {g : Reading} (e : g ≡ readingOf s) {fits
   unfolding callOutcome
   outcome-is =
       ⊎-elim
-      (λ q. rw (← reading-says, ← count-is q, ← f) p)
+      (λ q. rw (← read-outcome s e, ← count-is q, ← f) p)
       (λ q. p ∙ then-refused (g .outcome) fits (q .0) (q .1)
-      ∙ sym (then-refused (tableOutcome s) (bufferTest (taskCount s) room) (q .0) (sym reading-says ∙ q .1)))
+      ∙ sym (then-refused (tableOutcome s) (bufferTest (taskCount s) room) (q .0) (sym (read-outcome s e) ∙ q .1)))
       (outcome-cases (g .outcome))
 
   -- what an accepted call is given

@@ -1,6 +1,6 @@
 -- The planner's steps make the plan that its definition names.
 use Prim.Native.Nat.{ℕ, zero, suc, _≤_, _<_, zero-le}
-use mathlib.Core.Path.{_≡_, refl, sym, _∙_, ap}
+use mathlib.Core.Path.{_≡_, refl, _∙_, ap}
 use mathlib.Core.Bool.{Bool, true, false}
 use mathlib.Core.List.{List}
 use lib.ListN.{getD, take}
@@ -10,17 +10,16 @@ use Rattle.numbers.specs.Sorting.{sorted}
 use Rattle.numbers.proofs.ReorderLaws.{scatter-padded}
 use Rattle.numbers.proofs.RowLaws.{getD-row}
 use Rattle.refusal.specs.declared.Cause.{Cause}
-use Rattle.refusal.specs.declared.Outcome.{Outcome}
 use Rattle.refusal.specs.declared.Outcome.the-variants as outcome
 use Rattle.taskset.specs.Demands.{hyperperiodOf, demandOf}
 use Rattle.taskset.specs.Reading.{taskSetOf}
 use Rattle.taskset.specs.Limits.{Checked}
 use Rattle.taskset.proofs.DemandLaws.{demand-range}
-use Rattle.taskset.proofs.ReadingLaws.{reading-outcome, reading-accepted}
 use Rattle.taskset.specs.declared.TaskSet.{TaskSet}
 use Rattle.taskset.specs.declared.Reading.{Reading}
 use Rattle.stored.specs.Form.{fieldsOf}
-use Rattle.stored.specs.Tests.{tableOutcome, readingOf}
+use Rattle.stored.specs.Tests.{readingOf}
+use Rattle.stored.proofs.TableLaws.{read-outcome, read-tasks}
 use Rattle.planning.specs.Order.{precedes, planningOrder, Listed}
 use Rattle.planning.proofs.OrderLaws.{planning-front, planning-is}
 use Rattle.planning.proofs.ListedLaws.{gathered-tasks, gathered-each}
@@ -123,19 +122,15 @@ verdict-short b (suc x) e q = rw e
 -- ---- from the reader's answer to the plan
 
 module _ (s : List ℕ) {g : Reading} (e : g ≡ readingOf s) where
-  reading-says : {o : Outcome} → g .outcome ≡ o → tableOutcome s ≡ o
-  unfolding readingOf
-  reading-says q = sym (reading-outcome (tableOutcome s) (fieldsOf s)) ∙ ap (λ x. x .outcome) (sym e) ∙ q
-
   pub plan-refused : (limit : ℕ) {c : Cause} {r : Allocation} → r ≡ refusedPlan c → g .outcome ≡ outcome.Refused c → r ≡ planOf s limit
   unfolding planOf planBy
-  plan-refused limit w q = rw (reading-says q) w
+  plan-refused limit w q = rw (← read-outcome s e, q) w
 
   -- the fields of an accepted reading
   pub fields-are : g .outcome ≡ outcome.Accepted → g .tasks .fields ≡ fieldsOf s
-  unfolding readingOf taskSetOf
-  fields-are q = ap (λ x. x .tasks .fields) e ∙ ap (λ x. x .fields) (reading-accepted (tableOutcome s) (fieldsOf s) (sym (ap (λ x. x .outcome) e) ∙ q))
+  unfolding taskSetOf
+  fields-are q = ap (λ x. x .fields) (read-tasks s e q)
 
   pub plan-accepted : (limit : ℕ) {r : Allocation} → g .outcome ≡ outcome.Accepted → r ≡ planFor (g .tasks .fields) limit → r ≡ planOf s limit
   unfolding planOf planBy
-  plan-accepted limit q w = rw (reading-says q) (w ∙ ap (λ f. planFor f limit) (fields-are q))
+  plan-accepted limit q w = rw (← read-outcome s e, q) (w ∙ ap (λ f. planFor f limit) (fields-are q))

@@ -12,13 +12,12 @@ use Rattle.refusal.specs.declared.Outcome.the-variants as outcome
 use Rattle.refusal.proofs.ConditionLaws.{decides, accepts}
 use Rattle.taskset.specs.Limits.{Checked, Reads}
 use Rattle.taskset.specs.Reading.{taskSetOf, acceptedReading, readingBy}
-use Rattle.taskset.proofs.ReadingLaws.{reading-outcome, reading-accepted}
 use Rattle.taskset.specs.declared.Fields.{Fields}
 use Rattle.taskset.specs.declared.Reading.{Reading}
 use Rattle.taskset.specs.declared.TaskSet.{TaskSet}
 use Rattle.stored.specs.Form.{fieldsOf}
 use Rattle.stored.specs.Tests.{tableOutcome, readingOf}
-use Rattle.stored.proofs.TableLaws.{table-tested}
+use Rattle.stored.proofs.TableLaws.{table-tested, read-outcome, read-tasks}
 use Rattle.planner.specs.Plan.{verdictOf, allocationOf, planFor, refusedPlan, planBy, planOf, verdictOutcome}
 use Rattle.planner.specs.declared.Allocation.{Allocation}
 use Rattle.planner.specs.declared.Verdict.{Verdict}
@@ -68,20 +67,15 @@ pub reading-few : {g : Reading} {o : Outcome} → Reads g → g .outcome ≡ o �
 reading-few r q h = r .checked (q ∙ h) .within .sizes .tasks .1
 
 module _ (s : List ℕ) {g : Reading} (e : g ≡ readingOf s) where
-  reading-says : {o : Outcome} → g .outcome ≡ o → tableOutcome s ≡ o
-  unfolding readingOf
-  reading-says q = sym (reading-outcome (tableOutcome s) (fieldsOf s)) ∙ ap (λ x. x .outcome) (sym e) ∙ q
-
   pub output-refused : {x : List ℕ} {o : Outcome} {cause : Cause} → g .outcome ≡ o → o ≡ outcome.Refused cause → x ≡ refusalLine (numberOf cause) (placeOf cause) → x ≡ outputOf s
-  output-refused q h p = p ∙ sym (lines-refused s (reading-says (q ∙ h)))
+  output-refused q h p = p ∙ sym (lines-refused s (sym (read-outcome s e) ∙ q ∙ h))
 
   pub output-planned : {x : List ℕ} {o : Outcome} {plan : Allocation} → g .outcome ≡ o → o ≡ outcome.Accepted → plan ≡ planFor (g .tasks .fields) 1000000
       → x ≡ planLines (g .tasks) plan → x ≡ outputOf s
-  unfolding readingOf taskSetOf
+  unfolding taskSetOf
   output-planned q h w p =
-      let t : g .tasks ≡ taskSetOf (fieldsOf s) =
-      ap (λ r. r .tasks) e ∙ reading-accepted (tableOutcome s) (fieldsOf s) (sym (ap (λ r. r .outcome) e) ∙ q ∙ h) in
-      p ∙ ap (λ a. planLines (g .tasks) a) w ∙ ap (λ u. planLines u (planFor (u .fields) 1000000)) t ∙ sym (lines-planned s (reading-says (q ∙ h)))
+      let t : g .tasks ≡ taskSetOf (fieldsOf s) = read-tasks s e (q ∙ h) in
+      p ∙ ap (λ a. planLines (g .tasks) a) w ∙ ap (λ u. planLines u (planFor (u .fields) 1000000)) t ∙ sym (lines-planned s (sym (read-outcome s e) ∙ q ∙ h))
 
 -- ---- in the table's terms
 

@@ -32,10 +32,9 @@ use Rattle.taskset.specs.Demands.{demandOf}
 use Rattle.taskset.specs.Reading.{taskSetOf}
 use Rattle.taskset.specs.Limits.{Within, Exact}
 use Rattle.taskset.proofs.DemandLaws.{taskSet-exact}
-use Rattle.taskset.proofs.ReadingLaws.{reading-outcome, reading-accepted}
 use Rattle.stored.specs.Form.{fieldsOf}
 use Rattle.stored.specs.Tests.{tableOutcome, readingOf}
-use Rattle.stored.proofs.TableLaws.{table-tested}
+use Rattle.stored.proofs.TableLaws.{table-tested, read-outcome, read-tasks}
 use Rattle.edf.specs.declared.Slot.{Slot}
 use Rattle.edf.specs.Slots.{emptySlot, slotAt}
 use Rattle.edf.specs.Fresh.{freshSlot, freshSlots}
@@ -168,21 +167,17 @@ module _ (table placement : List ℕ) (core : ℕ) where
 
   -- The steps of the program.
   module _ {reading : Reading} (e : reading ≡ readingOf table) where
-    table-outcome : reading .outcome ≡ tableOutcome table
-    unfolding readingOf
-    table-outcome = ap (λ (x : Reading). x .outcome) e ∙ reading-outcome (tableOutcome table) (fieldsOf table)
-
     pub start-refused : {c : Cause} {r : Started} → reading .outcome ≡ Refused c → r ≡ refusedStart c → r ≡ startOf table placement core
     unfolding startOf startOutcome startBy
-    start-refused {c} q h = h ∙ rw (then-refused (tableOutcome table) (placingOutcome tasks placement core) c (sym table-outcome ∙ q)) refl
+    start-refused {c} q h = h ∙ rw (then-refused (tableOutcome table) (placingOutcome tasks placement core) c (sym (read-outcome table e) ∙ q)) refl
 
     pub start-checked : {r : Started} → reading .outcome ≡ Accepted
         → r ≡ startBy (placingOutcome (reading .tasks) placement core) (placedTasks (reading .tasks .fields) placement) core
         → r ≡ startOf table placement core
-    unfolding startOf startOutcome readingOf taskSetOf
+    unfolding startOf startOutcome taskSetOf
     start-checked a h =
-        let same : reading .tasks ≡ tasks = ap (λ (x : Reading). x .tasks) e ∙ reading-accepted (tableOutcome table) (fieldsOf table) (sym (ap (λ (x : Reading). x .outcome) e) ∙ a) in
-        rw (then-first (tableOutcome table) (placingOutcome tasks placement core) (sym table-outcome ∙ a)) (rw same at h)
+        let same : reading .tasks ≡ tasks = read-tasks table e a in
+        rw (then-first (tableOutcome table) (placingOutcome tasks placement core) (sym (read-outcome table e) ∙ a)) (rw same at h)
 
 -- The answer for a checked task set, by the outcome of its tests.
 module _ (t : TaskSet) (placement : List ℕ) (core : ℕ) {o : Outcome} (p : o ≡ placingOutcome t placement core) where

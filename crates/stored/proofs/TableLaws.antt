@@ -14,12 +14,12 @@ use Rattle.refusal.specs.declared.Outcome.the-variants.{Accepted}
 use Rattle.refusal.proofs.TestLaws.{then-accepted, then-assoc, inOrder-append}
 use Rattle.refusal.proofs.ConditionLaws.{Reports, test-only, _and_, then-reports, none-append, _also_, Tested, decides, accepts}
 use Rattle.taskset.specs.Tests.{sizeTests, limitTests}
-use Rattle.taskset.specs.Reading.{readingBy}
+use Rattle.taskset.specs.Reading.{readingBy, taskSetOf}
 use Rattle.taskset.specs.Limits.{Sized, sizes, limits, Reads}
 use Rattle.taskset.specs.declared.Fields.{Fields}
 use Rattle.taskset.specs.declared.Reading.{Reading}
 use Rattle.taskset.proofs.LimitLaws.{sizes-reported, sizes-kept, limits-reported, limits-kept, within-kept}
-use Rattle.taskset.proofs.ReadingLaws.{reading-outcome, reading-promised}
+use Rattle.taskset.proofs.ReadingLaws.{reading-outcome, reading-accepted, reading-promised}
 use Rattle.stored.specs.Form.{taskCount, fieldsOf}
 use Rattle.stored.specs.Tests.{shortTest, lengthTest, tableOutcome, readingOf}
 use Rattle.stored.specs.Limits.{Valid, conditions}
@@ -74,7 +74,17 @@ module _ (s : List ℕ) {g : Fields} (e : g ≡ fieldsOf s) {o : Outcome} (p : o
       ∙ rw (p, e)
       (ap (λ x. readingBy x (fieldsOf s)) (then-assoc _ _ _ ∙ sym (inOrder-append (shortTest s ∷ sizeTests (fieldsOf s)) (lengthTest s ∷ limitTests (fieldsOf s)))))
 
+-- The reader's answer.
 module _ (s : List ℕ) {r : Reading} (e : r ≡ readingOf s) where
+  -- its outcome is that of the tests, and where that is good it has the task set of the fields
+  pub read-outcome : r .outcome ≡ tableOutcome s
+  unfolding readingOf
+  read-outcome = ap (λ x. x .outcome) e ∙ reading-outcome (tableOutcome s) (fieldsOf s)
+
+  pub read-tasks : r .outcome ≡ Accepted → r .tasks ≡ taskSetOf (fieldsOf s)
+  unfolding readingOf
+  read-tasks q = ap (λ x. x .tasks) e ∙ reading-accepted (tableOutcome s) (fieldsOf s) (sym (ap (λ x. x .outcome) e) ∙ q)
+
   pub read-decides : Decides (Valid s) (conditions s) (r .outcome)
   read-decides = rw e (reading-decides s)
 

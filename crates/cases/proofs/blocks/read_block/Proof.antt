@@ -1,5 +1,5 @@
 -- What is read is counted in the buffer, and what stands behind it is kept.
-use mathlib.Core.Path.{sym}
+use mathlib.Core.Path.{refl, sym}
 use mathlib.Core.Bool.{true≢false}
 use Rattle.cases.proofs.BlockLaws.{block-kept}
 use borrow.Author.Needs.{needs}
@@ -10,5 +10,5 @@ pub read-block-spec : {M : Type 1} → statement M
 read-block-spec =
     tie.close (tie.spec (λ c. search needs) (λ c κs. search needs) (λ c. search needs) (λ c. search needs)
     (λ c κs. search needs) (λ c. search needs) (λ c κs. search needs) (λ c. search needs) (λ c. search needs)
-    (λ c κs. search needs) (λ c. search needs) (λ c. (search needs, λ e. absurd (true≢false (sym e))))
-    (λ c. search needs) (λ c. (search needs, λ e. search (needs, block-kept))))
+    (λ c κs. search needs) (λ c. search needs) (λ c. (λ e. refl, (search needs, λ e. absurd (true≢false (sym e)))))
+    (λ c. search needs) (λ c. (λ e. absurd (true≢false e), (search needs, λ e. search (needs, block-kept)))))
