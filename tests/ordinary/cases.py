@@ -17,8 +17,9 @@ def make(kind, seed):
     pairs = []
     for call in CALLS:
         rng = Random(f"{seed} {call.CODE}")
-        count = call.STORED if kind == "stored" else call.FRESH
-        inputs = call.edges() + [call.draw(rng) for _ in range(count)]
+        inputs = call.edges()
+        for draw, stored, fresh in call.DRAWS:
+            inputs += [draw(rng) for _ in range(stored if kind == "stored" else fresh)]
         pairs += [(frame.case(call.CODE, call.contents(*given)),
                    "".join(map(frame.line, call.lines(*given)))) for given in inputs]
     if kind == "fresh":

@@ -8,7 +8,7 @@ import sys
 from random import Random
 
 from plans import USUAL_LIMIT, plan
-from samples import paper_rows, random_table, shapes, telling_tables
+from samples import level_table, paper_rows, random_table, shapes, telling_tables
 from tables import read_table
 
 MOST_READ = 131
@@ -19,7 +19,8 @@ def main():
     seed, count, program = sys.argv[1:]
     rng = Random(int(seed))
     inputs = paper_rows() + telling_tables() + shapes() + long_inputs(rng)
-    inputs += [random_table(rng, rng.randint(1, 6), rng.randint(1, 4)) for _ in range(int(count))]
+    for made in (random_table, level_table):
+        inputs += [made(rng, rng.randint(1, 6), rng.randint(1, 4)) for _ in range(int(count) // 2)]
     for data in inputs:
         run = subprocess.run([program], input=data, capture_output=True, check=True)
         if run.stdout.decode() != expected(data[:MOST_READ]):

@@ -51,6 +51,15 @@ def random_table(rng, n, m):
     return table_of(m, periods, budgets)
 
 
+def level_table(rng, n, m):
+    """An accepted table with one or two different demands in all, by periods that mostly differ."""
+    parts = rng.choice([2, 3, 4, 5, 6])
+    shares = [rng.randint(1, parts) for _ in range(rng.randint(1, 2))]
+    periods = [parts * d for d in divisors(rng.choice([12, 60, 100, 720, 840, 1000]), 1000)]
+    periods = [rng.choice(periods) for _ in range(n)]
+    return table_of(m, periods, [p // parts * rng.choice(shares) for p in periods])
+
+
 def damaged(rng, table):
     """Four times in five the table as it is, otherwise one with some damage."""
     n, m = table[0], table[1]
@@ -213,6 +222,13 @@ def planning_orders():
         table_of(4, [100, 10] * 8, [10, 1] * 8),
         table_of(1, [16 * k for k in (1, 2, 4, 8) * 4], [k * k for k in (1, 2, 4, 8) * 4]),
         table_of(4, up[:12], up[:12]),
+        # equal demands, periods falling, rising and in turn; and some of them equal
+        table_of(4, [20 * k for k in up[:10][::-1]], [6 * k for k in up[:10][::-1]]),
+        table_of(4, [20 * k for k in up[:10]], [6 * k for k in up[:10]]),
+        table_of(4, [60, 20, 120, 30, 40, 10] * 2 + [240, 10, 240, 10],
+                 [30, 10, 60, 15, 20, 5] * 2 + [120, 5, 120, 5]),
+        # three of more demand and longer period between
+        table_of(3, [12, 240, 24, 120, 48, 240], [4, 120, 8, 60, 16, 120]),
     ]
 
 
@@ -236,7 +252,11 @@ def telling_tables():
         table_of(1, [2, 3, 6], [1, 1, 2]),
         table_of(1, [999, 1001], [500, 500]),
         table_of(1, [999, 1001], [499, 501]),
-        # equal demands: table order decides, and the lower core
+        # equal demands: the shorter period decides, then table order, and the lower core
+        table_of(2, [1000, 10], [600, 6]),
+        table_of(2, [10, 10], [6, 6]),
+        table_of(2, [10, 1000], [5, 600]),
+        table_of(3, [1000, 10, 100, 10], [600, 6, 60, 6]),
         table_of(2, [10] * 4, [5, 5, 5, 5]),
         table_of(2, [10, 1000, 20], [6, 600, 12]),
         table_of(3, [10] * 6, [4, 4, 4, 4, 4, 4]),

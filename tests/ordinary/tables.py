@@ -42,7 +42,8 @@ def read_table(table):
 
     hyperperiod = lcm(*periods)
     demands = [exact(budgets[k] * hyperperiod, periods[k]) for k in range(n)]
-    order = sorted(range(1, n + 1), key=lambda task: (-demands[task - 1], task))
+    order = sorted(range(1, n + 1),
+                   key=lambda task: (-demands[task - 1], periods[task - 1], task))
     return TaskSet(n, m, periods, budgets, hyperperiod, demands, order)
 
 

@@ -66,6 +66,8 @@ abbrev pub front : List Slot → List Slot
 front slots = slots ++ replicate 13 emptySlot
 
 -- Of two tasks of equal weight the lower number is placed.
+-- Two tasks that no core holds together: display and axis loop of equal weight, where the axis loop's shorter period gives it the lower core;
+-- of equal weight and period, where the lower number has it; and the heavier one of longer period, which has it.
 -- The excess counts: what two cores cannot hold ends the walk at the first placement that leaves out no more, whether a core is full or shared.
 -- A spent walk returns the last placement that it stored: here the second one, at step 10; the first, at step 5, leaves out 15.
 -- A task that asks for less than its time gets what it asked for.
@@ -74,6 +76,9 @@ front slots = slots ++ replicate 13 emptySlot
 unfoldable pub more : List Row
 more =
     plans (tableOf 1 (10 ∷ 10 ∷ []) (6 ∷ 6 ∷ [])) 1000000 Short (1 ∷ 0 ∷ []) 6 2
+    ∷ plans (tableOf 2 (1000 ∷ 10 ∷ []) (600 ∷ 6 ∷ [])) 1000000 All (2 ∷ 1 ∷ []) 0 2
+    ∷ plans (tableOf 2 (10 ∷ 10 ∷ []) (6 ∷ 6 ∷ [])) 1000000 All (1 ∷ 2 ∷ []) 0 2
+    ∷ plans (tableOf 2 (10 ∷ 1000 ∷ []) (5 ∷ 600 ∷ [])) 1000000 All (2 ∷ 1 ∷ []) 0 2
     ∷ plans (tableOf 2 (10 ∷ 10 ∷ 10 ∷ []) (10 ∷ 10 ∷ 1 ∷ [])) 1000000 Short (1 ∷ 2 ∷ 0 ∷ []) 1 3
     ∷ plans (tableOf 2 (10 ∷ 10 ∷ 10 ∷ 10 ∷ 10 ∷ []) (5 ∷ 5 ∷ 5 ∷ 5 ∷ 1 ∷ [])) 1000000 Short (1 ∷ 1 ∷ 2 ∷ 2 ∷ 0 ∷ []) 1 5
     ∷ plans (tableOf 1 (10 ∷ 10 ∷ 10 ∷ 10 ∷ 10 ∷ []) (8 ∷ 6 ∷ 3 ∷ 3 ∷ 3 ∷ [])) 10 Spent (0 ∷ 1 ∷ 1 ∷ 0 ∷ 0 ∷ []) 14 10

@@ -10,7 +10,6 @@ use Rattle.numbers.specs.Reorder.{scatter}
 use Rattle.numbers.specs.Rows.{entry}
 use Rattle.numbers.specs.Sorting.{Permutation}
 use Rattle.numbers.proofs.RowLaws.{row-beyond, length-tab, getD-tab, take-row}
-use Rattle.numbers.proofs.SortingLaws.{sorted-permutation}
 use Rattle.refusal.specs.Causes.{numberIn}
 use Rattle.refusal.specs.Conditions.{Decides}
 use Rattle.refusal.proofs.ConditionLaws.{decides, accepts}
@@ -24,7 +23,9 @@ use Rattle.stored.specs.Form.{fieldsOf}
 use Rattle.stored.specs.Tests.{tableOutcome}
 use Rattle.stored.specs.Limits.{Valid, conditions}
 use Rattle.stored.proofs.TableLaws.{table-tested}
-use Rattle.planning.specs.Order.{precedes}
+use Rattle.planning.specs.Order.{InOrder}
+use Rattle.planning.proofs.PlainOrder.{in-order}
+use Rattle.planning.proofs.OrderLaws.{sorted-is}
 use Rattle.taskset.specs.declared.Fields.{Fields}
 use Rattle.allocation.specs.Placement.{Feasible, Full, rejected}
 use Rattle.allocation.specs.Walk.{WalkAnswer, LastLeaf, NoLeaf}
@@ -71,10 +72,12 @@ module _ (f : Fields) (w : Within f) (limit : ℕ) where
   unfolding tableProblem
   demands-long = length-tab 0 (f .n) (demandOf f)
 
-  -- the planning order has each task once
+  stated-order : InOrder (taskSetOf f .demands) (f .periods) (orderOf f) × Permutation (f .n) (orderOf f)
+  unfolding orderOf taskSetOf
+  stated-order = let o = sorted-is (taskSetOf f) in (in-order (taskSetOf f) (orderOf f) (o .sorted), o .each)
+
   order-permutation : Permutation (length (tableProblem f .demands)) (orderOf f)
-  unfolding orderOf
-  order-permutation = rw demands-long (sorted-permutation (precedes (taskSetOf f)) (f .n))
+  order-permutation = rw demands-long (stated-order .1)
 
   a : WalkAnswer
   a = tableAnswer (tableProblem f) (orderOf f) limit
@@ -146,6 +149,7 @@ module _ (f : Fields) (w : Within f) (limit : ℕ) where
     feasible = rw choices-are (keeps .feasible);
     beyond = beyond;
     best = λ h. rw choices-are (keeps .best (unspent h));
+    ordered = stated-order;
     all = λ h. all-exactly (unspent h);
     short = λ h. short-exactly (unspent h);
     spent = spent-exactly;

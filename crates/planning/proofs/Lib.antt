@@ -1,3 +1,3 @@
-pub mod DemandOrder
+pub mod PlainOrder
 pub mod OrderLaws
 pub mod ListedLaws

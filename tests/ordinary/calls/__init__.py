@@ -3,9 +3,9 @@
     CODE            the call's code in the frame
     HEAD            how many blocks the first line waits for; each further line waits for one more
     FREE            which blocks, counted from 0, may have any length up to 1,024 bytes
-    STORED, FRESH   how many random cases the stored file and a fresh one get
     edges()         the inputs that are not drawn at random
-    draw(rng)       a random input
+    DRAWS           sets of random inputs: a function that draws one, and how many of them the stored
+                    file and a fresh one get; a further set leaves those before it as they are
     contents(*i)    the contents of an input's blocks, in the frame's order
     lines(*i)       the lines that the program must print, each a list of numbers
 

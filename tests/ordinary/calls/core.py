@@ -9,7 +9,7 @@ from samples import (LARGEST_WORD, divisors, entries, paper_rows, random_table, 
 from tables import Refusal, read_table
 from ticks import fresh_core, run_core
 
-CODE, STORED, FRESH = 3, 260, 300
+CODE = 3
 HEAD, FREE = 4, {0, 1}
 
 FULL = [LARGEST_WORD] * 16
@@ -166,3 +166,6 @@ def random_requests(rng, tasks, ticks):
         return rng.choice([0, 1, 7, LARGEST_WORD])
 
     return [[request(k, now) for k in range(16)] for now in range(ticks)]
+
+
+DRAWS = [(draw, 260, 300)]

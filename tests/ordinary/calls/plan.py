@@ -3,10 +3,10 @@ sixteen placement numbers."""
 
 from frame import number
 from plans import USUAL_LIMIT, plan, walk_length
-from samples import (LARGEST_WORD, entries, larger_tables, paper_rows, random_table, sets_of_faults,
-                     shapes, table_of, telling_tables)
+from samples import (LARGEST_WORD, entries, larger_tables, level_table, paper_rows, random_table,
+                     sets_of_faults, shapes, table_of, telling_tables)
 
-CODE, STORED, FRESH = 2, 1500, 600
+CODE = 2
 HEAD, FREE = 2, {0}
 
 
@@ -52,3 +52,12 @@ def draw(rng):
     if kind == 3:
         return table, rng.choice(limits_around(table))
     return table, LARGEST_WORD if kind == 4 else USUAL_LIMIT
+
+
+def draw_level(rng):
+    """Many tasks of equal demand and different periods."""
+    table = level_table(rng, rng.randint(2, 6), rng.randint(1, 4))
+    return table, rng.choice([*limits_around(table), USUAL_LIMIT, USUAL_LIMIT])
+
+
+DRAWS = [(draw, 1500, 600), (draw_level, 300, 300)]

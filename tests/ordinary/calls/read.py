@@ -1,11 +1,11 @@
 """Code 1, the reader of the old form. Block: table. Values: n, m, hyperperiod, then sixteen each of
 periods, budgets, demands and task numbers in planning order."""
 
-from samples import (damaged, entries, hyperperiods, paper_rows, planning_orders, random_table,
-                     sets_of_faults, shapes)
+from samples import (damaged, entries, hyperperiods, level_table, paper_rows, planning_orders,
+                     random_table, sets_of_faults, shapes)
 from tables import Refusal, read_table
 
-CODE, STORED, FRESH = 1, 250, 2000
+CODE = 1
 HEAD, FREE = 1, {0}
 
 
@@ -32,3 +32,10 @@ def edges():
 
 def draw(rng):
     return (damaged(rng, random_table(rng, rng.randint(1, 16), rng.randint(1, 4))),)
+
+
+def draw_level(rng):
+    return (level_table(rng, rng.randint(2, 16), rng.randint(1, 4)),)
+
+
+DRAWS = [(draw, 250, 2000), (draw_level, 100, 1000)]

@@ -5,7 +5,7 @@ from frame import numbers
 from samples import LARGEST_WORD
 from ticks import EMPTY, Slot, tick
 
-CODE, STORED, FRESH = 4, 200, 3000
+CODE = 4
 HEAD, FREE = 2, set()
 
 
@@ -73,3 +73,6 @@ def draw(rng):
         record[k] = record[k]._replace(**{field: rng.choice([0, 1, 10001, LARGEST_WORD])})
     requests = [rng.choice([0, 1, rng.randint(0, 20), LARGEST_WORD]) for _ in range(16)]
     return record, requests
+
+
+DRAWS = [(draw, 200, 3000)]
