@@ -57,7 +57,7 @@ fn write_byte(b: u8) -> usize
 }
 
 // Writes the first `n` bytes, byte by byte once a call took fewer, and returns how many the output took.
-fn write_front(bytes: &[u8], n: usize) -> usize
+fn write_bytes(bytes: &[u8], n: usize) -> usize
     requires { ⌜ n ≤ length (now bytes) ⌝ }
     ensures { λ r. ⌜ r ≤ n ⌝ }
 {
@@ -78,7 +78,7 @@ pub fn show(t: Text) -> Written
 {
     let n = shown_length(t);
     let bytes = t.bytes;
-    let taken = write_front(&bytes, n);
+    let taken = write_bytes(&bytes, n);
     let whole = taken == n;
     if !whole {
         io::write_all(ERROR, b"standard output failed\n");

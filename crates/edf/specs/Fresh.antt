@@ -33,12 +33,13 @@ coreOf tasks k = entry (tasks .placement) k
 abbrev pub firstRelease : Tasks → ℕ → ℕ
 firstRelease tasks k = entry (tasks .firstReleases) k
 
--- the slot of a task that has the given core: nothing is owed, and its first release is to come; all zeros if it has another
+-- the slot of a task placed on the given core: nothing is owed, and its first release is to come; all zeros if it is placed on another
+abbrev pub slotFor : ℕ → ℕ → ℕ → ℕ → ℕ → Slot
+slotFor period budget first placed core = cond (eqb placed core) (record { period = period; budget = budget; until = first; remaining = 0 }) emptySlot
+
+-- the same of the task at k
 unfoldable pub freshSlot : Tasks → ℕ → ℕ → Slot
-freshSlot tasks core k =
-    cond (eqb (coreOf tasks k) core)
-    (record { period = period tasks k; budget = budget tasks k; until = firstRelease tasks k; remaining = 0 })
-    emptySlot
+freshSlot tasks core k = slotFor (period tasks k) (budget tasks k) (firstRelease tasks k) (coreOf tasks k) core
 
 -- the record that ticks start from, the paper's fresh core record where every first release is 0: slot k is task k's, and the slots beyond n
 -- are all zeros

@@ -7,9 +7,10 @@ use mathlib.Core.Logic.{_⊎_, inl, inr, _↔_, _≢_}
 use lib.ListN.{length, getD, take, replicate}
 use native.Mathlib.Omega.{arith}
 use Rattle.numbers.specs.Reorder.{scatter}
-use Rattle.numbers.specs.Rows.{entry}
+use Rattle.numbers.specs.Rows.{tab, row, entry}
 use Rattle.numbers.specs.Sorting.{Permutation}
-use Rattle.numbers.proofs.RowLaws.{row-beyond, length-tab, getD-tab, take-row}
+use Rattle.numbers.proofs.RowLaws.{row-beyond, length-tab, getD-tab, getD-row, take-row}
+use Rattle.numbers.proofs.SortingLaws.{permutation-below}
 use Rattle.refusal.specs.Causes.{numberIn}
 use Rattle.refusal.specs.Conditions.{Decides}
 use Rattle.refusal.proofs.ConditionLaws.{decides, accepts}
@@ -72,9 +73,20 @@ module _ (f : Fields) (w : Within f) (limit : ℕ) where
   unfolding tableProblem
   demands-long = length-tab 0 (f .n) (demandOf f)
 
-  stated-order : InOrder (taskSetOf f .demands) (f .periods) (orderOf f) × Permutation (f .n) (orderOf f)
-  unfolding orderOf taskSetOf
-  stated-order = let o = sorted-is (taskSetOf f) in (in-order (taskSetOf f) (orderOf f) (o .sorted), o .each)
+  stated-order : InOrder (tableProblem f .demands) (f .periods) (orderOf f) × Permutation (f .n) (orderOf f)
+  unfolding orderOf taskSetOf tableProblem
+  stated-order = (
+    λ i j h g.
+        rw (same (entry (orderOf f) i) (below i (omega arith)), same (entry (orderOf f) j) (below j g))
+        (in-order (taskSetOf f) (orderOf f) (sorted-is (taskSetOf f) .sorted) i j h g),
+    sorted-is (taskSetOf f) .each,
+  )
+    where
+      below : (k : ℕ) → k < length (orderOf f) → entry (orderOf f) k < f .n
+      below = permutation-below (f .n) (orderOf f) (sorted-is (taskSetOf f) .each)
+
+      same : (k : ℕ) → k < f .n → getD (tab (f .n) (demandOf f)) k 0 ≡ getD (row 0 (f .n) (demandOf f)) k 0
+      same k h = getD-tab 0 (f .n) (demandOf f) k h ∙ sym (getD-row 0 (f .n) (demandOf f) k h few)
 
   order-permutation : Permutation (length (tableProblem f .demands)) (orderOf f)
   order-permutation = rw demands-long (stated-order .1)
@@ -164,7 +176,7 @@ module _ (f : Fields) (w : Within f) (limit : ℕ) where
 
 -- ---- demand 1
 
-outcome-planned : (b : Bool) (x : ℕ) → verdictOutcome (verdictOf b x) ≡ outcome.Accepted
+pub outcome-planned : (b : Bool) (x : ℕ) → verdictOutcome (verdictOf b x) ≡ outcome.Accepted
 unfolding verdictOf verdictOutcome
 outcome-planned true x = refl
 outcome-planned false zero = refl

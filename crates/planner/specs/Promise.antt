@@ -9,7 +9,6 @@ use Rattle.numbers.specs.Rows.{entry}
 use Rattle.numbers.specs.Sorting.{Permutation}
 use Rattle.refusal.specs.Causes.{numberIn}
 use Rattle.taskset.specs.Demands.{hyperperiodOf}
-use Rattle.taskset.specs.Reading.{taskSetOf}
 use Rattle.taskset.specs.declared.Fields.{Fields}
 use Rattle.planning.specs.Order.{InOrder}
 use Rattle.stored.specs.Form.{fieldsOf}
@@ -39,7 +38,7 @@ pub record Promise (f : Fields) (limit : ℕ) (r : Allocation) : Type 0 where
   -- Unless the step limit ran out, the plan is the best one: the least demand is rejected, the first in the stated order among equals.
   pub best : r .verdict ≢ Spent → BestPlan (tableProblem f) (orderOf f) (choicesOf f r)
   -- That order compares the tasks by falling demand, equal demands by shorter period, then by lower number; each task once.
-  pub ordered : InOrder (taskSetOf f .demands) (f .periods) (orderOf f) × Permutation (f .n) (orderOf f)
+  pub ordered : InOrder (tableProblem f .demands) (f .periods) (orderOf f) × Permutation (f .n) (orderOf f)
   -- "All placed" is said if and only if a full placement exists; "short" otherwise.
   pub all : r .verdict ≢ Spent → (r .verdict ≡ All) ↔ ((q : List ℕ) × Feasible (tableProblem f) q × Full q)
   pub short : r .verdict ≢ Spent → (r .verdict ≡ Short) ↔ ((q : List ℕ) → Feasible (tableProblem f) q → Full q → ⊥)

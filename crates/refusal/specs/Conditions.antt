@@ -13,6 +13,7 @@ pub data Condition : Type 1 where
   only : ℕ → Type 0 → Condition
   at : ℕ → (ℕ → Type 0) → ℕ → Condition
 
+-- its number
 abbrev pub numbered : Condition → ℕ
 numbered (only number P) = number
 numbered (at number P n) = number

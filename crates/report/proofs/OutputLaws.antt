@@ -1,7 +1,6 @@
 -- The whole output is the one that the definition gives.
-use Prim.Native.Nat.{ℕ, zero, suc, _≤_}
+use Prim.Native.Nat.{ℕ, _≤_}
 use mathlib.Core.Path.{_≡_, refl, sym, _∙_, ap}
-use mathlib.Core.Bool.{Bool, true, false}
 use mathlib.Core.List.{List, []}
 use native.Mathlib.Omega.{arith}
 use Rattle.refusal.specs.Causes.{numberOf, placeOf}
@@ -18,7 +17,8 @@ use Rattle.taskset.specs.declared.TaskSet.{TaskSet}
 use Rattle.stored.specs.Form.{fieldsOf}
 use Rattle.stored.specs.Tests.{tableOutcome, readingOf}
 use Rattle.stored.proofs.TableLaws.{table-tested, read-outcome, read-tasks}
-use Rattle.planner.specs.Plan.{verdictOf, allocationOf, planFor, refusedPlan, planBy, planOf, verdictOutcome}
+use Rattle.planner.specs.Plan.{allocationOf, planFor, refusedPlan, planBy, planOf, verdictOutcome}
+use Rattle.planner.proofs.PromiseLaws.{outcome-planned}
 use Rattle.planner.specs.declared.Allocation.{Allocation}
 use Rattle.planner.specs.declared.Verdict.{Verdict}
 use Rattle.planner.specs.declared.Verdict.the-variants as verdict
@@ -35,16 +35,10 @@ unfolding planLines
 plan-whole s plan e p q u = append-whole e (append-both (append-both p q) u) (omega arith)
 
 -- The verdict of a plan is no refusal.
-verdict-accepted : (spent : Bool) (rejected : ℕ) → verdictOutcome (verdictOf spent rejected) ≡ outcome.Accepted
-unfolding verdictOf verdictOutcome
-verdict-accepted true rejected = refl
-verdict-accepted false zero = refl
-verdict-accepted false (suc rejected) = refl
-
 pub never-refused : (f : Fields) (limit : ℕ) {plan : Allocation} {v : Verdict} {cause : Cause} → plan ≡ planFor f limit → plan .verdict ≡ v → v ≡ verdict.Refused cause → ⊥
 unfolding planFor allocationOf verdictOutcome
 never-refused f limit {plan} e q h =
-    let a : verdictOutcome (plan .verdict) ≡ outcome.Accepted = rw e (verdict-accepted _ _) in
+    let a : verdictOutcome (plan .verdict) ≡ outcome.Accepted = rw e (outcome-planned _ _) in
     let z : _≡_ {A = ℕ} 0 1 = cc in
     omega arith
 
@@ -56,7 +50,7 @@ lines-refused s e = rw e
 
 lines-planned : (s : List ℕ) → tableOutcome s ≡ outcome.Accepted → outputOf s ≡ planLines (taskSetOf (fieldsOf s)) (planFor (fieldsOf s) 1000000)
 unfolding outputOf linesFor linesBy planOf planBy planFor allocationOf readingOf readingBy acceptedReading
-lines-planned s e = rw (e, verdict-accepted)
+lines-planned s e = rw (e, outcome-planned)
 
 -- ---- from the reader's answer to the output
 

@@ -16,8 +16,8 @@ use Rattle.taskset.specs.declared.TaskSet.{TaskSet}
 use Rattle.taskset.specs.Limits.{Checked}
 use Rattle.taskset.proofs.DemandLaws.{demands-small}
 use Rattle.edf.specs.declared.Slot.{Slot}
-use Rattle.edf.specs.Fresh.{freshSlot}
-use Rattle.start.specs.Starts.{placedTasks, loadOf, slotFor}
+use Rattle.edf.specs.Fresh.{slotFor, freshSlot}
+use Rattle.start.specs.Starts.{placedTasks, loadOf}
 
 -- A loop that adds the demands on a core: those of the tasks before k are added.
 pub record Adding (t : TaskSet) (placement : List ℕ) (core sum k : ℕ) : Type 0 where
@@ -51,6 +51,6 @@ module _ {t : TaskSet} {placement : List ℕ} {core sum k : ℕ} (s : Adding t p
 
 -- A loop that fills the slots of a fresh record: the slot of task k.
 pub slot-made : (f : Fields) (placement : List ℕ) (core k : ℕ) {v : Slot} {placed : ℕ} → placed ≡ entry placement k
-    → v ≡ slotFor (entry (f .periods) k) (entry (f .budgets) k) placed core → v ≡ freshSlot (placedTasks f placement) core k
+    → v ≡ slotFor (entry (f .periods) k) (entry (f .budgets) k) 0 placed core → v ≡ freshSlot (placedTasks f placement) core k
 unfolding freshSlot
 slot-made f placement core k e q = rw e at q

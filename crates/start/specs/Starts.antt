@@ -1,6 +1,6 @@
 -- What a fresh core is: the tests of its placement, core number and load, and the record that it starts from.
 use Prim.Native.Nat.{ℕ}
-use mathlib.Core.Bool.{Bool, not, cond}
+use mathlib.Core.Bool.{Bool, not}
 use mathlib.Core.List.{List, [], _∷_}
 use lib.Dec.{ltb, eqb}
 use lib.ListN.{length, take, replicate}
@@ -18,7 +18,6 @@ use Rattle.taskset.specs.declared.TaskSet.{TaskSet}
 use Rattle.taskset.specs.Reading.{taskSetOf}
 use Rattle.stored.specs.Form.{fieldsOf}
 use Rattle.stored.specs.Tests.{tableOutcome}
-use Rattle.edf.specs.declared.Slot.{Slot}
 use Rattle.edf.specs.Slots.{emptySlot}
 use Rattle.edf.specs.Fresh.{Tasks, plainTasks, freshSlots}
 use Rattle.start.specs.declared.Started.{Started}
@@ -54,10 +53,6 @@ loadTest t placement core = refuseIf (ltb (t .hyperperiod) (loadOf t placement c
 abbrev pub placingTests : TaskSet → List ℕ → ℕ → List Outcome
 placingTests t placement core =
     placesTest (t .fields) placement ∷ entriesTest (t .fields) placement ∷ coreTest (t .fields) core ∷ loadTest t placement core ∷ []
-
--- the slot of a task on the core, before its first release; all zeros if it is on another
-abbrev pub slotFor : ℕ → ℕ → ℕ → ℕ → Slot
-slotFor period budget placed core = cond (eqb placed core) (record { period = period; budget = budget; until = 0; remaining = 0 }) emptySlot
 
 -- the answer where the call is refused: a record of zeros beside the cause
 unfoldable pub refusedStart : Cause → Started

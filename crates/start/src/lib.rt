@@ -5,10 +5,10 @@ ghost use Prim.Native.Nat.{_≤_, _<_};
 ghost use lib.Dec.{eqb, ltb};
 ghost use lib.ListN.{length, getD};
 ghost use Rattle.numbers.specs.First.{first};
-ghost use Rattle.edf.specs.Fresh.{freshSlots};
+ghost use Rattle.edf.specs.Fresh.{slotFor, freshSlots};
 ghost use Rattle.refusal.specs.Conditions.{Decides};
 ghost use Rattle.taskset.specs.Limits.{Checked};
-ghost use Rattle.start.specs.Starts.{placedTasks, loadOf, placesTest, aboveAt, entriesTest, coreTest, loadTest, placingOutcome, slotFor, refusedStart, startBy, startOf};
+ghost use Rattle.start.specs.Starts.{placedTasks, loadOf, placesTest, aboveAt, entriesTest, coreTest, loadTest, placingOutcome, refusedStart, startBy, startOf};
 ghost use Rattle.start.specs.Limits.{ValidStart, startConditions, Starts};
 use edf::Slot;
 use refusal::Cause;
@@ -121,9 +121,9 @@ fn placing_tests(t: TaskSet, placement: &[u8], core: u8) -> Outcome
     refusal::then(places, later)
 }
 
-// The slot of a task on the core, before its first release; all zeros if it is on another.
+// The slot of a task that is first released at tick 0; all zeros if it is not placed on the core.
 fn fresh_slot(period: u32, budget: u32, placed: u8, core: u8) -> Slot
-    ensures { λ r. ⌜ r ≡ slotFor period budget placed core ⌝ }
+    ensures { λ r. ⌜ r ≡ slotFor period budget 0 placed core ⌝ }
 {
     if placed == core {
         Slot {

@@ -4,10 +4,10 @@ use Rattle.console.proofs.WriteLaws.{shown-within, took-of}
 use Rattle.console.proofs.show.Statement.{statement}
 use Rattle.console.proofs.show.Tie as tie
 
-write-front-requires : tie.Need-write-front-requires
-write-front-requires c κs = rw (c .before .before .shown-length .ensures) (shown-within _)
+write-bytes-requires : tie.Need-write-bytes-requires
+write-bytes-requires c κs = rw (c .before .before .shown-length .ensures) (shown-within _)
 
 pub show-spec : {M : Type 1} → statement M
 show-spec =
-    tie.close (tie.spec (λ c κs. search needs) (λ c. search needs) write-front-requires (λ c. search needs)
+    tie.close (tie.spec (λ c κs. search needs) (λ c. search needs) write-bytes-requires (λ c. search needs)
     (λ c κs. search needs) (λ c. search (needs, took-of)) (λ c. search (needs, took-of)))
