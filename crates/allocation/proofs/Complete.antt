@@ -40,16 +40,16 @@ module _ (P : Problem) (p : List ℕ) (c : ℕ) (r : List ℕ) where
   at-seam : length p < length (p ++ (c ∷ r))
   at-seam = omega (arith, length-append p (c ∷ r))
 
-  choice-within : Feasible P (p ++ (c ∷ r)) → c ≤ P .cores
+  pub choice-within : Feasible P (p ++ (c ∷ r)) → c ≤ P .cores
   choice-within f = rw getD-append-seam at (f .core (length p) at-seam)
 
   choice-permitted : Feasible P (p ++ (c ∷ r)) → 1 ≤ c → P .permits (length p) c ≡ true
   choice-permitted f = rw getD-append-seam at (f .permitted (length p) at-seam)
 
-  snoc-mono : (d : ℕ) → load P d (p ++ (c ∷ [])) ≤ load P d (p ++ (c ∷ r))
+  pub snoc-mono : (d : ℕ) → load P d (p ++ (c ∷ [])) ≤ load P d (p ++ (c ∷ r))
   snoc-mono d = rw append-snoc at (demandOn-mono d (P .demands) (p ++ (c ∷ [])) r)
 
-choice-fits : (P : Problem) (p : List ℕ) (c : ℕ) (r : List ℕ) → Feasible P (p ++ (c ∷ r)) → fits P p c ≡ true
+pub choice-fits : (P : Problem) (p : List ℕ) (c : ℕ) (r : List ℕ) → Feasible P (p ++ (c ∷ r)) → fits P p c ≡ true
 choice-fits P p zero r f = refl
 choice-fits P p (suc c) r f =
     let l = f .fits (suc c) (omega arith) (choice-within P p (suc c) r f) in

@@ -8,4 +8,6 @@ pub mod Remaining
 pub mod Progress
 pub mod Reorder
 pub mod Guarantee
+pub mod FirstFit
+pub mod Quick
 pub mod Examples

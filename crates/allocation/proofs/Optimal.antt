@@ -30,7 +30,8 @@ module _ (P : Problem) where
     fits = λ c i j. rw (none-loads c i (P .demands) (length (P .demands))) zero-le;
   }
 
-  start : Partial P []
+  -- nothing chosen yet
+  pub start : Partial P []
   start = record {
     core = λ k l. absurd (omega arith);
     permitted = λ k l. absurd (omega arith);

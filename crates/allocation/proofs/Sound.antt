@@ -37,22 +37,20 @@ abbrev pub into : ℕ → (List ℕ → ℕ → List Step) → List ℕ → ℕ 
 into k below p c b = stepInto k (p ++ (c ∷ [])) ∷ below (p ++ (c ∷ [])) b
 
 module _ (P : Problem) where
-  -- what the test of a choice says
-  module _ (p : List ℕ) (c b : ℕ) (e : entered P p c b ≡ true) where
-    pub entered-rejects : rejected P (p ++ (c ∷ [])) < b
-    unfolding entered
-    entered-rejects = omega (arith, ltb-true _ b (and-right (fits P p c && tried P p c) (improves P p c b) e))
+  -- a placement of every task
+  pub partial-whole : {p : List ℕ} → Partial P p → length p ≡ length (P .demands) → Feasible P p
+  partial-whole h e = record { whole = e; core = h .core; permitted = h .permitted; fits = h .fits }
 
-    core-fits : 1 ≤ c → (P .permits (length p) c ≡ true) × (load P c (p ++ (c ∷ [])) ≤ P .capacity)
-    unfolding entered
+  -- what the test of a choice says
+  module _ (p : List ℕ) (c : ℕ) (e : fits P p c ≡ true) where
+    pub core-fits : 1 ≤ c → (P .permits (length p) c ≡ true) × (load P c (p ++ (c ∷ [])) ≤ P .capacity)
     core-fits i =
         let s = P .permits (length p) c in
         let u = leb (load P c (p ++ (c ∷ []))) (P .capacity) in
-        let f = and-left (fits P p c) (tried P p c) (and-left (fits P p c && tried P p c) (improves P p c b) e) in
-        let g : (s && u) ≡ true = rw (ne-eqb c 0 (λ q. omega arith)) at f in
+        let g : (s && u) ≡ true = rw (ne-eqb c 0 (λ q. omega arith)) at e in
         (and-left s u g, leb-true _ _ (and-right s u g))
 
-    partial-snoc : c ≤ P .cores → Partial P p → Partial P (p ++ (c ∷ []))
+    pub partial-snoc : c ≤ P .cores → Partial P p → Partial P (p ++ (c ∷ []))
     partial-snoc l h = record {
       core = snoc-each (λ k x. x ≤ P .cores) p c (h .core) l;
       permitted = snoc-each (λ k x. 1 ≤ x → P .permits k x ≡ true) p c (h .permitted) (λ i. core-fits i .0);
@@ -60,6 +58,16 @@ module _ (P : Problem) where
           dite (ℕ-discrete c d) (λ q. rw (← q) (core-fits (omega arith) .1))
           (λ q. rw (demandOn-other d c q) (h .fits d i j));
     }
+
+  -- and what the entry rule says
+  module _ (p : List ℕ) (c b : ℕ) (e : entered P p c b ≡ true) where
+    entered-fits : fits P p c ≡ true
+    unfolding entered
+    entered-fits = and-left (fits P p c) (tried P p c) (and-left (fits P p c && tried P p c) (improves P p c b) e)
+
+    pub entered-rejects : rejected P (p ++ (c ∷ [])) < b
+    unfolding entered
+    entered-rejects = omega (arith, ltb-true _ b (and-right (fits P p c && tried P p c) (improves P p c b) e))
 
   module _ (k : ℕ) (below : List ℕ → ℕ → List Step) where
     pub try-skip : (p : List ℕ) (c : ℕ) (cs : List ℕ) (b : ℕ) → entered P p c b ≡ false → tryAll P k below p (c ∷ cs) b ≡ tryAll P k below p cs b
@@ -88,9 +96,9 @@ module _ (P : Problem) where
   pub into-sound : (k : ℕ) (p : List ℕ) (b : ℕ) → length p + k ≡ length (P .demands) → Partial P p
       → Leaves (Feasible P) (stepInto k p ∷ visit P k p b)
   unfolding stepInto visit
-  into-sound zero p b l h = (record { whole = omega arith; core = h .core; permitted = h .permitted; fits = h .fits }, tt)
+  into-sound zero p b l h = (partial-whole h (omega arith), tt)
   into-sound (suc k) p b l h =
       try-sound k (λ p′ b′. visit P k p′ b′) (Feasible P) p (choices (P .cores))
       (λ j b′ i e. let c = getD (choices (P .cores)) j 0 in
       into-sound k (p ++ (c ∷ [])) b′ (omega (arith, length-append p (c ∷ [])))
-      (partial-snoc p c b′ e (choice-le (P .cores) j (omega (arith, length-choices (P .cores)))) h)) b
+      (partial-snoc p c (entered-fits p c b′ e) (choice-le (P .cores) j (omega (arith, length-choices (P .cores)))) h)) b

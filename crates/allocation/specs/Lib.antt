@@ -4,3 +4,4 @@ pub mod Rule
 pub mod Walk
 pub mod TableOrder
 pub mod Guarantee
+pub mod FirstFit

@@ -56,13 +56,13 @@ module _ {t : TaskSet} (c : Checked t) where
     pub order-listed : Listed o (t .fields .n)
     order-listed = record { few = few; each = rw e (planning-is t few .each) }
 
-    front : take (t .fields .n) o ≡ orderOf (t .fields)
+    pub front : take (t .fields .n) o ≡ orderOf (t .fields)
     unfolding orderOf
     front = rw e (planning-front t few) ∙ ap (λ x. sorted (precedes x) (t .fields .n)) (c .is)
 
     module _ {d : List ℕ} (q : d ≡ row 0 (t .fields .n) (entry (gather (take (t .fields .n) o) (t .demands)))) where
       -- the search is given the table's problem in planning order
-      problem-is : problemOf (t .hyperperiod) (t .fields .m) (take (t .fields .n) d) ≡ inPlanningOrder (tableProblem (t .fields)) (orderOf (t .fields))
+      pub problem-is : problemOf (t .hyperperiod) (t .fields .m) (take (t .fields .n) d) ≡ inPlanningOrder (tableProblem (t .fields)) (orderOf (t .fields))
       unfolding tableProblem
       problem-is =
           let w : take (t .fields .n) d ≡ gather (orderOf (t .fields)) (tab (t .fields .n) (demandOf (t .fields))) =

@@ -65,15 +65,15 @@ short-is false (suc x) h = (λ e. omega arith, λ e. refl)
 
 -- ---- demand 2
 
-module _ (f : Fields) (w : Within f) (limit : ℕ) where
+module _ (f : Fields) (w : Within f) where
   few : f .n ≤ 16
   few = w .sizes .tasks .1
 
-  demands-long : length (tableProblem f .demands) ≡ f .n
+  pub demands-long : length (tableProblem f .demands) ≡ f .n
   unfolding tableProblem
   demands-long = length-tab 0 (f .n) (demandOf f)
 
-  stated-order : InOrder (tableProblem f .demands) (f .periods) (orderOf f) × Permutation (f .n) (orderOf f)
+  pub stated-order : InOrder (tableProblem f .demands) (f .periods) (orderOf f) × Permutation (f .n) (orderOf f)
   unfolding orderOf taskSetOf tableProblem
   stated-order = (
     λ i j h g.
@@ -88,11 +88,8 @@ module _ (f : Fields) (w : Within f) (limit : ℕ) where
       same : (k : ℕ) → k < f .n → getD (tab (f .n) (demandOf f)) k 0 ≡ getD (row 0 (f .n) (demandOf f)) k 0
       same k h = getD-tab 0 (f .n) (demandOf f) k h ∙ sym (getD-row 0 (f .n) (demandOf f) k h few)
 
-  order-permutation : Permutation (length (tableProblem f .demands)) (orderOf f)
+  pub order-permutation : Permutation (length (tableProblem f .demands)) (orderOf f)
   order-permutation = rw demands-long (stated-order .1)
-
-  a : WalkAnswer
-  a = tableAnswer (tableProblem f) (orderOf f) limit
 
   positive : (k : ℕ) → k < length (tableProblem f .demands) → 1 ≤ getD (tableProblem f .demands) k 0
   unfolding tableProblem
@@ -100,79 +97,83 @@ module _ (f : Fields) (w : Within f) (limit : ℕ) where
       let b : k < f .n = rw demands-long at h in
       rw (getD-tab 0 (f .n) (demandOf f) k b) (demand-range w b .0)
 
-  keeps : Guarantee (tableProblem f) (orderOf f) limit a
-  unfolding a
-  keeps = guaranteed (tableProblem f) (orderOf f) order-permutation positive limit
+  module _ (limit : ℕ) where
+    a : WalkAnswer
+    a = tableAnswer (tableProblem f) (orderOf f) limit
 
-  -- the row's front is the answer's placement
-  choices-are : choicesOf f (planFor f limit) ≡ a .placement
-  unfolding planFor allocationOf a
-  choices-are = take-row (f .n) (a .placement) (keeps .feasible .whole ∙ demands-long) few
+    keeps : Guarantee (tableProblem f) (orderOf f) limit a
+    unfolding a
+    keeps = guaranteed (tableProblem f) (orderOf f) order-permutation positive limit
 
-  -- and zeros follow it
-  beyond : (k : ℕ) → f .n ≤ k → entry (planFor f limit .placement) k ≡ 0
-  unfolding planFor allocationOf a
-  beyond k h = row-beyond 0 (f .n) (entry (a .placement)) k h
+    -- the row's front is the answer's placement
+    choices-are : choicesOf f (planFor f limit) ≡ a .placement
+    unfolding planFor allocationOf a
+    choices-are = take-row (f .n) (a .placement) (keeps .feasible .whole ∙ demands-long) few
 
-  verdict-is : planFor f limit .verdict ≡ verdictOf (a .spent) (a .rejected)
-  unfolding planFor allocationOf a
-  verdict-is = refl
+    -- and zeros follow it
+    beyond : (k : ℕ) → f .n ≤ k → entry (planFor f limit .placement) k ≡ 0
+    unfolding planFor allocationOf a
+    beyond k h = row-beyond 0 (f .n) (entry (a .placement)) k h
 
-  unspent : planFor f limit .verdict ≢ Spent → a .spent ≡ false
-  unspent h = not-spent (a .spent) (a .rejected) (λ e. h (verdict-is ∙ e))
+    verdict-is : planFor f limit .verdict ≡ verdictOf (a .spent) (a .rejected)
+    unfolding planFor allocationOf a
+    verdict-is = refl
 
-  all-exactly : a .spent ≡ false → (planFor f limit .verdict ≡ All) ↔ ((q : List ℕ) × Feasible (tableProblem f) q × Full q)
-  all-exactly h = (
-    λ e. keeps .all h .0 (all-is (a .spent) (a .rejected) h .0 (sym verdict-is ∙ e)),
-    λ x. verdict-is ∙ all-is (a .spent) (a .rejected) h .1 (keeps .all h .1 x),
-  )
+    unspent : planFor f limit .verdict ≢ Spent → a .spent ≡ false
+    unspent h = not-spent (a .spent) (a .rejected) (λ e. h (verdict-is ∙ e))
 
-  short-exactly : a .spent ≡ false → (planFor f limit .verdict ≡ Short) ↔ ((q : List ℕ) → Feasible (tableProblem f) q → Full q → ⊥)
-  short-exactly h = (
-    λ e q g u. omega (arith, short-is (a .spent) (a .rejected) h .0 (sym verdict-is ∙ e), keeps .all h .1 (q, g, u)),
-    λ none. verdict-is ∙ short-is (a .spent) (a .rejected) h .1 (at none (a .rejected) refl),
-  )
-    where
-      at : ((q : List ℕ) → Feasible (tableProblem f) q → Full q → ⊥) → (x : ℕ) → a .rejected ≡ x → 1 ≤ a .rejected
-      at none zero e = let r = keeps .all h .0 e in absurd (none (r .0) (r .1) (r .2))
-      at none (suc x) e = omega arith
+    all-exactly : a .spent ≡ false → (planFor f limit .verdict ≡ All) ↔ ((q : List ℕ) × Feasible (tableProblem f) q × Full q)
+    all-exactly h = (
+      λ e. keeps .all h .0 (all-is (a .spent) (a .rejected) h .0 (sym verdict-is ∙ e)),
+      λ x. verdict-is ∙ all-is (a .spent) (a .rejected) h .1 (keeps .all h .1 x),
+    )
 
-  spent-exactly : (planFor f limit .verdict ≡ Spent) ↔ (limit < length (walkOf f))
-  spent-exactly = (
-    λ e. keeps .spent .0 (spent-is (a .spent) (a .rejected) .0 (sym verdict-is ∙ e)),
-    λ h. verdict-is ∙ spent-is (a .spent) (a .rejected) .1 (keeps .spent .1 h),
-  )
+    short-exactly : a .spent ≡ false → (planFor f limit .verdict ≡ Short) ↔ ((q : List ℕ) → Feasible (tableProblem f) q → Full q → ⊥)
+    short-exactly h = (
+      λ e q g u. omega (arith, short-is (a .spent) (a .rejected) h .0 (sym verdict-is ∙ e), keeps .all h .1 (q, g, u)),
+      λ none. verdict-is ∙ short-is (a .spent) (a .rejected) h .1 (at none (a .rejected) refl),
+    )
+      where
+        at : ((q : List ℕ) → Feasible (tableProblem f) q → Full q → ⊥) → (x : ℕ) → a .rejected ≡ x → 1 ≤ a .rejected
+        at none zero e = let r = keeps .all h .0 e in absurd (none (r .0) (r .1) (r .2))
+        at none (suc x) e = omega arith
 
-  stored : ((p : List ℕ) × LastLeaf (take limit (walkOf f)) p × (choicesOf f (planFor f limit) ≡ scatter (orderOf f) p))
-      ⊎ (NoLeaf (take limit (walkOf f)) × (choicesOf f (planFor f limit) ≡ replicate (f .n) 0))
-  stored = go (keeps .stores)
-    where
-      go : ((p : List ℕ) × LastLeaf (take limit (walkOf f)) p × (a .placement ≡ scatter (orderOf f) p))
-          ⊎ (NoLeaf (take limit (walkOf f)) × (a .placement ≡ replicate (length (tableProblem f .demands)) 0))
-          → ((p : List ℕ) × LastLeaf (take limit (walkOf f)) p × (choicesOf f (planFor f limit) ≡ scatter (orderOf f) p))
-          ⊎ (NoLeaf (take limit (walkOf f)) × (choicesOf f (planFor f limit) ≡ replicate (f .n) 0))
-      go (inl x) = inl (x .0, x .1, choices-are ∙ x .2)
-      go (inr x) = inr (x .0, choices-are ∙ x .1 ∙ ap (λ (k : ℕ). replicate k 0) demands-long)
+    spent-exactly : (planFor f limit .verdict ≡ Spent) ↔ (limit < length (walkOf f))
+    spent-exactly = (
+      λ e. keeps .spent .0 (spent-is (a .spent) (a .rejected) .0 (sym verdict-is ∙ e)),
+      λ h. verdict-is ∙ spent-is (a .spent) (a .rejected) .1 (keeps .spent .1 h),
+    )
 
-  pub promised : Promise f limit (planFor f limit)
-  unfolding planFor allocationOf a tableProblem
-  promised = record {
-    safe = λ core h g. rw choices-are (keeps .feasible .fits core h g);
-    feasible = rw choices-are (keeps .feasible);
-    beyond = beyond;
-    best = λ h. rw choices-are (keeps .best (unspent h));
-    ordered = stated-order;
-    all = λ h. all-exactly (unspent h);
-    short = λ h. short-exactly (unspent h);
-    spent = spent-exactly;
-    stores = λ e. stored;
-    limited = λ e. keeps .limited (spent-exactly′ e);
-    complete = λ h. keeps .complete (unspent h);
-    rejects = rw choices-are (keeps .rejects);
-  }
-    where
-      spent-exactly′ : planFor f limit .verdict ≡ Spent → a .spent ≡ true
-      spent-exactly′ e = spent-is (a .spent) (a .rejected) .0 (sym verdict-is ∙ e)
+    stored : ((p : List ℕ) × LastLeaf (take limit (walkOf f)) p × (choicesOf f (planFor f limit) ≡ scatter (orderOf f) p))
+        ⊎ (NoLeaf (take limit (walkOf f)) × (choicesOf f (planFor f limit) ≡ replicate (f .n) 0))
+    stored = go (keeps .stores)
+      where
+        go : ((p : List ℕ) × LastLeaf (take limit (walkOf f)) p × (a .placement ≡ scatter (orderOf f) p))
+            ⊎ (NoLeaf (take limit (walkOf f)) × (a .placement ≡ replicate (length (tableProblem f .demands)) 0))
+            → ((p : List ℕ) × LastLeaf (take limit (walkOf f)) p × (choicesOf f (planFor f limit) ≡ scatter (orderOf f) p))
+            ⊎ (NoLeaf (take limit (walkOf f)) × (choicesOf f (planFor f limit) ≡ replicate (f .n) 0))
+        go (inl x) = inl (x .0, x .1, choices-are ∙ x .2)
+        go (inr x) = inr (x .0, choices-are ∙ x .1 ∙ ap (λ (k : ℕ). replicate k 0) demands-long)
+
+    pub promised : Promise f limit (planFor f limit)
+    unfolding planFor allocationOf a tableProblem
+    promised = record {
+      safe = λ core h g. rw choices-are (keeps .feasible .fits core h g);
+      feasible = rw choices-are (keeps .feasible);
+      beyond = beyond;
+      best = λ h. rw choices-are (keeps .best (unspent h));
+      ordered = stated-order;
+      all = λ h. all-exactly (unspent h);
+      short = λ h. short-exactly (unspent h);
+      spent = spent-exactly;
+      stores = λ e. stored;
+      limited = λ e. keeps .limited (spent-exactly′ e);
+      complete = λ h. keeps .complete (unspent h);
+      rejects = rw choices-are (keeps .rejects);
+    }
+      where
+        spent-exactly′ : planFor f limit .verdict ≡ Spent → a .spent ≡ true
+        spent-exactly′ e = spent-is (a .spent) (a .rejected) .0 (sym verdict-is ∙ e)
 
 -- ---- demand 1
 

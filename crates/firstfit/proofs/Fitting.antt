@@ -1,0 +1,116 @@
+-- The loop over the tasks: what it has chosen so far is the beginning of first fit.
+use Prim.Native.Nat.{ℕ, zero, suc, _+_, _-_, _≤_, _<_}
+use native.Mathlib.Nat.{le-trans}
+use native.Mathlib.Decide.{ℕ-discrete}
+use native.Mathlib.Numerals.{add-one}
+use native.Mathlib.Omega.{arith}
+use mathlib.Core.Path.{_≡_, refl, sym, ap, _∙_}
+use mathlib.Core.List.{List, [], _∷_, _++_}
+use mathlib.Core.Logic.{dite}
+use lib.ListN.{length, getD, take, set, replicate, length-set, length-append}
+use lib.Seq.{append-snoc, getD-take, getD-set-same, getD-set-other, length-take-le}
+use borrow.Author.Tests.{ne-eqb}
+use Rattle.numbers.specs.First.{first}
+use Rattle.numbers.specs.Rows.{padded}
+use Rattle.numbers.proofs.LoadLaws.{demandOn-none, demandOn-same, demandOn-other, demandOn-le-sum, sum-take-le}
+use Rattle.numbers.proofs.ZeroLaws.{zero-at, padded-next}
+use Rattle.allocation.specs.Placement.{Problem, problemOf, load, rejected}
+use Rattle.allocation.specs.Walk.{fits}
+use Rattle.allocation.specs.FirstFit.{lowestFit, fitFrom, firstFit}
+use Rattle.allocation.proofs.FirstFit.{next-le}
+use Rattle.search.specs.Search.{Ranges}
+use Rattle.firstfit.specs.Fitted.{holds, fittedOf}
+use Rattle.firstfit.specs.declared.Fitted.{Fitted}
+
+module _ (row : List ℕ) (n m h : ℕ) where
+  abbrev P : Problem
+  P = problemOf h m (take n row)
+
+  -- k tasks have their choice; the loads are theirs, and first fit goes on from them
+  pub record Fitting (placement loads : List ℕ) (k : ℕ) : Type 0 where
+    pub ranges : Ranges row n m h
+    pub row-long : length row ≡ 16
+    pub top : k ≤ n
+    pub chosen : List ℕ
+    pub count : length chosen ≡ k
+    pub placement-is : placement ≡ padded chosen
+    pub loads-long : length loads ≡ 5
+    pub loads-are : (c : ℕ) → getD loads c 0 ≡ load P c chosen
+    pub left : fitFrom P (n - k) chosen ≡ firstFit P
+
+  pub fit-start : Ranges row n m h → length row ≡ 16 → Fitting (replicate 16 0) (replicate 5 0) 0
+  unfolding firstFit
+  fit-start r e = record {
+    ranges = r;
+    row-long = e;
+    top = omega arith;
+    chosen = [];
+    count = refl;
+    placement-is = refl;
+    loads-long = refl;
+    loads-are = λ c. zero-at 5 c ∙ sym (demandOn-none c (take n row));
+    left = ap (λ (k : ℕ). fitFrom P k []) (omega (arith, length-take-le n row (omega (arith, r .few))));
+  }
+
+  module _ {placement loads : List ℕ} {k : ℕ} (s : Fitting placement loads k) where
+    -- a sum of a load and a demand is a word
+    pub fit-room : (j i : ℕ) → getD loads j 0 + getD row i 0 < 4294967296
+    fit-room j i =
+        omega (
+          arith,
+          s .loads-are j,
+          demandOn-le-sum j (take n row) (s .chosen),
+          sum-take-le 1000000 row n (λ a. le-trans (s .ranges .each a) (s .ranges .small)),
+          s .ranges .few,
+          s .ranges .each i,
+          s .ranges .small,
+        )
+
+    module _ (below : k < n) where
+      -- the next task's demand, on choice c
+      more : (c : ℕ) → load P c (s .chosen ++ (c ∷ [])) ≡ getD loads c 0 + getD row k 0
+      more c =
+          demandOn-same c (take n row) (s .chosen) (omega (arith, s .count, length-take-le n row (omega (arith, s .ranges .few, s .row-long))))
+          ∙ rw (s .count, getD-take n row k 0 below, s .loads-are c)
+
+      -- the core that the code looks for
+      fit-core : first (holds loads (getD row k 0) h) m ≡ lowestFit P (s .chosen)
+      unfolding lowestFit
+      fit-core = ap (λ test. first test m) (λ i j. same j i)
+        where
+          same : (j : ℕ) → holds loads (getD row k 0) h j ≡ fits P (s .chosen) (suc j)
+          same j = rw (ne-eqb (suc j) 0 (λ q. omega arith), add-one j, more (suc j))
+
+      module _ {core : ℕ} (e : core ≡ first (holds loads (getD row k 0) h) m) where
+        chosen-is : core ≡ lowestFit P (s .chosen)
+        chosen-is = e ∙ fit-core
+
+        pub core-small : core < 5
+        core-small = omega (arith, chosen-is, next-le P (s .chosen), s .ranges .few-cores)
+
+        goes-on : fitFrom P (n - (k + 1)) (s .chosen ++ (core ∷ [])) ≡ firstFit P
+        unfolding fitFrom
+        goes-on = let z : n - k ≡ suc (n - (k + 1)) = omega arith in rw chosen-is (rw z at (s .left))
+
+        pub fit-next : {placement′ loads′ : List ℕ} → loads′ ≡ set loads core (getD loads core 0 + getD row k 0) → placement′ ≡ set placement k core
+            → Fitting placement′ loads′ (k + 1)
+        fit-next x y = record {
+          ranges = s .ranges;
+          row-long = s .row-long;
+          top = omega arith;
+          chosen = s .chosen ++ (core ∷ []);
+          count = omega (arith, length-append (s .chosen) (core ∷ []), s .count);
+          placement-is = rw (y, s .placement-is, ← s .count) (padded-next (s .chosen) core (omega (arith, s .count, s .ranges .few)));
+          loads-long = rw (x, length-set) (s .loads-long);
+          loads-are = λ c. rw x (dite (ℕ-discrete core c)
+              (λ q. rw (← q) (getD-set-same loads core _ 0 (omega (arith, core-small, s .loads-long)) ∙ sym (more core)))
+              (λ q. getD-set-other loads core c _ 0 (λ z. q (sym z)) ∙ s .loads-are c ∙ sym (demandOn-other c core q (take n row) (s .chosen))));
+          left = goes-on;
+        }
+
+    pub fit-done : n ≤ k → _≡_ {A = Fitted} (record { placement = placement; rejected = getD loads 0 0 }) (fittedOf P)
+    unfolding fittedOf fitFrom
+    fit-done z =
+        let e : n - k ≡ 0 = omega arith in
+        let f : s .chosen ≡ firstFit P = rw e at (s .left) in
+        λ i. record { placement = (s .placement-is ∙ ap padded f) i; rejected = (s .loads-are 0 ∙ ap (λ p. rejected P p) f) i }

@@ -1,0 +1,17 @@
+-- What first fit returns.
+use Prim.Native.Nat.{ℕ, _+_}
+use mathlib.Core.Bool.{Bool}
+use mathlib.Core.List.{List}
+use lib.Dec.{leb}
+use Rattle.numbers.specs.Rows.{padded, entry}
+use Rattle.allocation.specs.Placement.{Problem, rejected}
+use Rattle.allocation.specs.FirstFit.{firstFit}
+use Rattle.firstfit.specs.declared.Fitted.{Fitted}
+
+-- core k + 1 holds demand d beside its load: they are at most h
+abbrev pub holds : List ℕ → ℕ → ℕ → ℕ → Bool
+holds loads d h k = leb (entry loads (k + 1) + d) h
+
+-- first fit of a problem, as it is returned
+unfoldable pub fittedOf : Problem → Fitted
+fittedOf P = record { placement = padded (firstFit P); rejected = rejected P (firstFit P) }

@@ -1,0 +1,61 @@
+// First fit, on demands in planning order: each task on the lowest core where it still fits, or left out.
+ghost use mathlib.Core.Path.{_≡_};
+ghost use Prim.Native.Nat.{ℕ, _+_, _≤_, _<_};
+ghost use lib.Dec.{leb};
+ghost use lib.ListN.{getD, take};
+ghost use Rattle.numbers.specs.First.{first};
+ghost use Rattle.allocation.specs.Placement.{problemOf};
+ghost use Rattle.search.specs.Search.{Ranges};
+ghost use Rattle.firstfit.specs.Fitted.{holds, fittedOf};
+
+// A choice for each task in planning order, entries beyond the tasks 0, and the rejected demand.
+pub struct Fitted {
+    pub placement: [u8; 16],
+    pub rejected: u32,
+}
+
+// Whether a core with this load holds demand d too.
+fn has_room(load: u32, d: u32, h: u32) -> bool
+    requires { ⌜ load + d < 4294967296 ⌝ }
+    ensures { λ r. ⌜ r ≡ leb (load + d) h ⌝ }
+{
+    load + d <= h
+}
+
+// The lowest of m cores that holds demand d beside its load; 0 if none does.
+fn lowest_core(loads: [u32; 5], d: u32, m: usize, h: u32) -> usize
+    requires { ⌜ (m ≤ 4) × ((k : ℕ) → getD loads k 0 + d < 4294967296) ⌝ }
+    ensures { λ r. ⌜ r ≡ first (holds loads d h) m ⌝ }
+{
+    let mut k = 0;
+    while k < m {
+        if has_room(loads[k + 1], d, h) {
+            return k + 1;
+        }
+        k += 1;
+    }
+    0
+}
+
+// First fit of n demands on m cores and the hyperperiod h. `loads` holds the demand on each core, entry 0 the rejected demand.
+pub fn first_fit(demands: [u32; 16], n: usize, m: usize, h: u32) -> Fitted
+    requires { ⌜ Ranges demands n m h ⌝ }
+    ensures { λ r. ⌜ r ≡ fittedOf (problemOf h m (take n demands)) ⌝ }
+{
+    let mut placement = [0u8; 16];
+    let mut loads = [0u32; 5];
+    let mut k = 0;
+    while k < n {
+        let d = demands[k];
+        let core = lowest_core(loads, d, m, h);
+        let more = moves::with_more(loads, core as u32, d);
+        let next = numbers::with_byte(placement, k, core as u8);
+        loads = more;
+        placement = next;
+        k += 1;
+    }
+    Fitted {
+        placement: placement,
+        rejected: loads[0],
+    }
+}

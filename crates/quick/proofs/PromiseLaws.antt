@@ -1,0 +1,148 @@
+-- The quick plan keeps what is promised of it, and is accepted exactly for valid tables.
+use Prim.Native.Nat.{ℕ, _≤_, zero-le}
+use mathlib.Core.Path.{_≡_, refl, sym, _∙_, ap}
+use mathlib.Core.List.{List}
+use mathlib.Core.Logic.{_≢_}
+use lib.ListN.{take}
+use native.Mathlib.Omega.{arith}
+use Rattle.numbers.specs.Rows.{row, entry}
+use Rattle.numbers.proofs.RowLaws.{row-beyond, take-row}
+use Rattle.refusal.specs.Causes.{numberIn}
+use Rattle.refusal.specs.Conditions.{Decides}
+use Rattle.refusal.proofs.CauseLaws.{number-range}
+use Rattle.refusal.proofs.ConditionLaws.{decides, accepts}
+use Rattle.refusal.specs.declared.Outcome.{Outcome}
+use Rattle.refusal.specs.declared.Outcome.the-variants as outcome
+use Rattle.taskset.specs.Limits.{Within}
+use Rattle.taskset.specs.declared.Fields.{Fields}
+use Rattle.stored.specs.Form.{fieldsOf}
+use Rattle.stored.specs.Tests.{tableOutcome}
+use Rattle.stored.specs.Limits.{Valid, conditions}
+use Rattle.stored.proofs.TableLaws.{table-tested}
+use Rattle.allocation.specs.Placement.{Problem, rejected}
+use Rattle.allocation.specs.TableOrder.{tableAnswer}
+use Rattle.allocation.specs.FirstFit.{QuickGuarantee}
+use Rattle.allocation.proofs.Quick.{quick-guaranteed}
+use Rattle.planner.specs.Problem.{tableProblem, orderOf}
+use Rattle.planner.specs.Plan.{verdictOf, allocationOf, planFor, refusedPlan, planBy, planOf}
+use Rattle.planner.specs.Promise.{Promise}
+use Rattle.planner.proofs.PromiseLaws.{demands-long, stated-order, order-permutation, promised}
+use Rattle.planner.specs.declared.Allocation.{Allocation}
+use Rattle.planner.specs.declared.Verdict.the-variants.{All, Spent}
+use Rattle.quick.specs.Quick.{quickPlacement, quickFor, refusedQuick, quickBy, quickOf}
+use Rattle.quick.specs.Promise.{quickChoices, Safe, Lowest, Exact, NoLess, Descent, RefusedQuick}
+use Rattle.quick.specs.declared.QuickPlan.{QuickPlan}
+
+-- ---- fields within the limits
+
+module _ (f : Fields) (w : Within f) where
+  few : f .n ≤ 16
+  few = w .sizes .tasks .1
+
+  keeps : QuickGuarantee (tableProblem f) (orderOf f) (quickPlacement f)
+  unfolding quickPlacement
+  keeps = quick-guaranteed (tableProblem f) (orderOf f) (order-permutation f w)
+
+  -- the row's front is the placement
+  choices-are : quickChoices f (quickFor f) ≡ quickPlacement f
+  unfolding quickFor
+  choices-are = take-row (f .n) (quickPlacement f) (keeps .feasible .whole ∙ demands-long f w) few
+
+  safe : Safe f (quickFor f)
+  unfolding quickFor tableProblem
+  safe = record {
+    safe = λ core h g. rw choices-are (keeps .feasible .fits core h g);
+    feasible = rw choices-are (keeps .feasible);
+    beyond = λ k h. row-beyond 0 (f .n) (entry (quickPlacement f)) k h;
+    rejects = rw choices-are;
+  }
+
+  lowest : Lowest f (quickFor f)
+  lowest = record {
+    each = λ k h. rw choices-are (keeps .lowest k (rw (demands-long f w) h));
+    ordered = stated-order f w;
+  }
+
+  exact-plan : quickFor f .rejected ≡ 0 → (limit : ℕ) → f .n ≤ limit
+      → planFor f limit ≡ record { verdict = All; placement = quickFor f .placement; rejected = 0; steps = f .n }
+  unfolding quickFor planFor allocationOf verdictOf
+  exact-plan z limit h =
+      ap (allocationOf (f .n)) (keeps .exact z limit (rw (demands-long f w) h))
+      ∙ ap (λ (k : ℕ). record { verdict = All; placement = quickFor f .placement; rejected = 0; steps = k }) (demands-long f w)
+
+  plan-no-less : (limit : ℕ) → planFor f limit .verdict ≢ Spent → planFor f limit .rejected ≤ quickFor f .rejected
+  unfolding quickFor
+  plan-no-less limit h =
+      omega (arith, promised f w limit .rejects, promised f w limit .best h .least (quickPlacement f) (keeps .feasible))
+
+  first-plan : planFor f (f .n) .placement ≡ quickFor f .placement
+  unfolding quickFor planFor allocationOf
+  first-plan =
+      ap (λ p. row 0 (f .n) (entry p))
+      (ap (λ (k : ℕ). tableAnswer (tableProblem f) (orderOf f) k .placement) (sym (demands-long f w)) ∙ keeps .descent)
+
+  first-rejected : planFor f (f .n) .rejected ≡ quickFor f .rejected
+  first-rejected = promised f w (f .n) .rejects ∙ ap (λ p. rejected (tableProblem f) (take (f .n) p)) first-plan ∙ sym (safe .rejects)
+
+-- ---- a table
+
+quick-outcome : (o : Outcome) (f : Fields) → quickBy o f .outcome ≡ o
+unfolding quickBy quickFor refusedQuick
+quick-outcome outcome.Accepted f = refl
+quick-outcome (outcome.Refused c) f = refl
+
+-- what is promised whether or not the table is valid
+record Answered (s : List ℕ) (r : QuickPlan) : Type 0 where
+  exact : Exact s r
+  no-less : NoLess s r
+  descent : Descent s r
+  refused : numberIn (r .outcome) ≢ 0 → RefusedQuick r
+
+answered : (s : List ℕ) (o : Outcome) → tableOutcome s ≡ o → Answered s (quickBy o (fieldsOf s))
+unfolding quickBy refusedQuick planOf planBy refusedPlan fieldsOf
+answered s (outcome.Refused c) e = record {
+  exact = λ z. absurd (omega (arith, number-range c, z));
+  no-less = λ limit h. rw e zero-le;
+  descent = rw e (refl, refl);
+  refused = λ n. record { placement = refl; rejected = refl };
+}
+answered s outcome.Accepted e =
+    let w : Within (fieldsOf s) = accepts (decides (table-tested s)) .0 e .fields in
+    record {
+      exact = λ z q limit h. rw e (exact-plan (fieldsOf s) w q limit h);
+      no-less = λ limit h. rw e (plan-no-less (fieldsOf s) w limit (rw e at h));
+      descent = rw e (first-plan (fieldsOf s) w, first-rejected (fieldsOf s) w);
+      refused = λ n. absurd (n (ap numberIn (quick-outcome outcome.Accepted (fieldsOf s))));
+    }
+
+-- every clause of `quick_plan`, of an answer that equals the definition
+module _ (s : List ℕ) {r : QuickPlan} (e : r ≡ quickOf s) where
+  whole : Answered s r
+  unfolding quickOf
+  whole = rw e (answered s (tableOutcome s) refl)
+
+  for-valid : (Q : QuickPlan → Type 0) → (Within (fieldsOf s) → Q (quickFor (fieldsOf s))) → Valid s → Q r
+  unfolding quickOf quickBy
+  for-valid Q h v = rw (e, accepts (decides (table-tested s)) .1 v) (h (v .fields))
+
+  pub quick-decides : Decides (Valid s) (conditions s) (r .outcome)
+  unfolding quickOf
+  quick-decides = rw (e, quick-outcome (tableOutcome s) (fieldsOf s)) (decides (table-tested s))
+
+  -- one within the other, as the contract's clauses stand
+  pub quick-promised : (r ≡ quickOf s) × (Decides (Valid s) (conditions s) (r .outcome)
+      × ((Valid s → Safe (fieldsOf s) r) × ((Valid s → Lowest (fieldsOf s) r)
+      × (Exact s r × (NoLess s r × (Descent s r × (numberIn (r .outcome) ≢ 0 → RefusedQuick r)))))))
+  quick-promised = (
+    e,
+    (
+      quick-decides,
+      (
+        for-valid (Safe (fieldsOf s)) (safe (fieldsOf s)),
+        (
+          for-valid (Lowest (fieldsOf s)) (lowest (fieldsOf s)),
+          (whole .exact, (whole .no-less, (whole .descent, whole .refused))),
+        ),
+      ),
+    ),
+  )

@@ -1,0 +1,23 @@
+-- The demands go into planning order, the choices of first fit come back into table order.
+use Rattle.planner.proofs.PlanLaws.{order-listed, ranges}
+use Rattle.quick.proofs.QuickLaws.{quick-is}
+use borrow.Author.Needs.{needs}
+use Rattle.quick.proofs.quick_tasks.Statement.{statement}
+use Rattle.quick.proofs.quick_tasks.Tie as tie
+
+first-fit-requires : tie.Need-first-fit-requires
+first-fit-requires c κs = ranges (c .before .before .before .pre) (c .before .before .planning-order .ensures .0) (c .in-planning-order .ensures)
+
+in-table-order-requires : tie.Need-in-table-order-requires
+in-table-order-requires c κs = order-listed (c .before .before .before .before .before .pre) (c .before .before .before .before .planning-order .ensures .0)
+
+returns : tie.Need-returns
+returns c =
+    quick-is (c .before .before .before .before .before .before .pre) (c .before .before .before .before .before .planning-order .ensures .0)
+    (c .before .before .before .in-planning-order .ensures) (c .before .before .first-fit .ensures) (c .in-table-order .ensures)
+
+pub quick-tasks-spec : {M : Type 1} → statement M
+quick-tasks-spec =
+    tie.close (tie.spec (λ c κs. search needs)
+    (λ c κs. order-listed (c .before .before .pre) (c .before .planning-order .ensures .0))
+    first-fit-requires in-table-order-requires returns)
