@@ -8,7 +8,7 @@ import subprocess
 import sys
 
 import frame
-from calls import core, plan, read, tick
+from calls import core, plan, quick, read, tick
 from samples import LARGEST_WORD, table_of
 from ticks import EMPTY, Slot
 
@@ -24,6 +24,7 @@ SMALL = [
     (core, (ROW_C, [1, 1, 1], 2, [FULL] * 2)),
     (core, (ROW_C, [1, 0, 1], 1, [])),
     (tick, ([Slot(4, 2, 0, 1)] + [EMPTY] * 15, FULL)),
+    (quick, (table_of(2, [10] * 6, [5, 4, 3, 3, 3, 2]),)),
 ]
 GOOD = frame.case(read.CODE, [ROW_C])
 
@@ -77,8 +78,9 @@ def wrong_lengths():
                 data = frame.case(call.CODE, contents[:k] + [other] + contents[k + 1:])
                 yield data + GOOD, standing(call, given, k)
     longest = bytes([16, 4]) + bytes(LONGEST - 2)
-    yield frame.case(read.CODE, [longest]) + GOOD, (standing(read, (longest,), 1)
-                                                    + standing(read, (ROW_C,), 1))
+    for call in (read, quick):
+        yield frame.case(call.CODE, [longest]) + GOOD, (standing(call, (longest,), 1)
+                                                        + standing(read, (ROW_C,), 1))
 
 
 def fewer_ticks_than_counted():

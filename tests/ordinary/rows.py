@@ -2,6 +2,7 @@
 
 from samples import LARGEST_WORD, table_of
 from plans import ALL, SHORT, SPENT, plan
+from quick_plans import quick_plan
 from tables import Refusal, read_table
 from ticks import run_core
 
@@ -16,11 +17,18 @@ def planned(m, periods, budgets, limit=1_000_000):
     return answer.verdict, cores, answer.rejected, answer.steps
 
 
+def fitted(m, periods, budgets):
+    """Cores and rejected demand of the quick plan."""
+    answer = quick_plan(table_of(m, periods, budgets))
+    return answer.placement[:len(periods)], answer.rejected
+
+
 def runs(all_requests, table=ROW_C):
     return [answer.run for answer in run_core(table, [1] * table[0], 1, all_requests)]
 
 
 TENS = [10] * 3
+DIFFERING = 2, [10] * 6, [5, 4, 3, 3, 3, 2]
 ROWS = {
     "a": planned(1, [10, 10], [3, 7]) == (ALL, [1, 1], 0, 2),
     "b": planned(1, [10, 10], [3, 8]) == (SHORT, [0, 1], 3, 2),
@@ -46,6 +54,11 @@ ROWS = {
     "heavier": planned(2, [10, 1000], [5, 600]) == (ALL, [2, 1], 0, 2),
     "full": planned(2, TENS, [10, 10, 1]) == (SHORT, [1, 2, 0], 1, 3),
     "beaten": planned(1, [10] * 5, [8, 6, 3, 3, 3], 10) == (SPENT, [0, 1, 1, 0, 0], 14, 10),
+    "d, quick": fitted(2, [10] * 5, [5, 5, 4, 3, 3]) == ([1, 1, 2, 2, 2], 0),
+    "listing, quick": fitted(1, TENS, [7, 6, 4]) == ([1, 0, 0], 10),
+    "differing": fitted(*DIFFERING) == ([1, 1, 2, 2, 2, 0], 2)
+                 and planned(*DIFFERING) == (ALL, [1, 2, 1, 2, 2, 1], 0, 11),
+    "k, quick": quick_plan(table_of(1, [1000, 1001], [1, 1])) == (7, 2, 0, [0] * 16),
     "less": runs([[1] + FULL[1:]] * 3, table_of(1, [3], [2])) == [1, 0, 0],
 }
 

@@ -1,5 +1,6 @@
 """Tables as bytes: random ones, and those that show each refusal and each way of planning."""
 
+from functools import lru_cache
 from itertools import combinations
 
 from frame import number, numbers
@@ -24,6 +25,7 @@ def put(row, at, entry):
 
 # Random tables.
 
+@lru_cache(maxsize=None)
 def divisors(hyperperiod, longest=10_000):
     """The periods, up to `longest`, that divide a hyperperiod."""
     return [d for d in range(1, min(hyperperiod, longest) + 1) if hyperperiod % d == 0]
@@ -58,6 +60,35 @@ def level_table(rng, n, m):
     periods = [parts * d for d in divisors(rng.choice([12, 60, 100, 720, 840, 1000]), 1000)]
     periods = [rng.choice(periods) for _ in range(n)]
     return table_of(m, periods, [p // parts * rng.choice(shares) for p in periods])
+
+
+def uneven_table(rng, n, m):
+    """An accepted table of a few heavy tasks, and light ones that fill what those leave."""
+    periods = random_periods(rng, n)
+    heavy = min(n, rng.randint(m, 2 * m))
+    parts = [rng.uniform(0.25, 0.75) if k < heavy else rng.uniform(0, 0.2) for k in range(n)]
+    rng.shuffle(parts)
+    budgets = [max(1, round(p * part)) for p, part in zip(periods, parts)]
+    return table_of(m, periods, budgets)
+
+
+def packed_table(rng, n, m):
+    """An accepted table that fills its cores exactly, at times but for one tick of one task, or
+    with one tick too much: the cores are cut up into tasks, the largest piece each time."""
+    hyperperiod = rng.choice([20, 24, 30, 60, 100, 120, 360, 840, 9240])
+    demands = [hyperperiod] * min(n, m)
+    while len(demands) < n:
+        largest = max(demands)
+        demands.remove(largest)
+        cut = rng.randint((largest + 3) // 4, largest // 2)
+        demands += [cut, largest - cut]
+    rng.shuffle(demands)
+    periods = [rng.choice([p for p in divisors(hyperperiod) if demand * p % hyperperiod == 0])
+               for demand in demands]
+    budgets = [demand * p // hyperperiod for demand, p in zip(demands, periods)]
+    at = rng.randrange(n)
+    budgets[at] = min(max(1, budgets[at] + rng.choice([-1, -1, 0, 0, 0, 1])), periods[at])
+    return table_of(m, periods, budgets)
 
 
 def damaged(rng, table):
@@ -272,6 +303,70 @@ def telling_tables():
         table_of(4, [10_000], [1]),
         # a long walk for six tasks, 326 steps
         table_of(4, [100] * 6, [93, 86, 79, 71, 70, 48]),
+    ]
+
+
+def first_fits():
+    """Tables that tell first fit from the best plan and from other ways to fit tasks in."""
+    up = list(range(1, 17))
+    return [
+        # first fit rejects the lightest, the best plan nothing; then one part too much, one part
+        # to spare, and the last that first fit rejects and the first that it places
+        table_of(2, [10] * 6, [5, 4, 3, 3, 3, 2]),
+        table_of(2, [100] * 6, [50, 40, 30, 30, 30, 21]),
+        table_of(2, [100] * 6, [50, 40, 30, 30, 30, 19]),
+        table_of(2, [100] * 6, [50, 40, 30, 30, 30, 11]),
+        table_of(2, [100] * 6, [50, 40, 30, 30, 30, 10]),
+        # a mill of mixed periods, its tasks in three orders
+        table_of(2, [10, 20, 20, 50, 100, 100], [5, 6, 9, 23, 21, 5]),
+        table_of(2, [100, 100, 50, 20, 20, 10], [5, 21, 23, 9, 6, 5]),
+        table_of(2, [50, 100, 10, 100, 20, 20], [23, 5, 5, 21, 6, 9]),
+        # both reject something, first fit more
+        table_of(1, [10] * 4, [8, 5, 4, 4]),
+        table_of(2, [10] * 5, [7, 7, 6, 4, 3]),
+        table_of(3, [20] * 8, [15, 12, 9, 9, 6, 5, 4, 3]),
+        # the best plan fills two, three and four cores to the last part, first fit does not
+        table_of(2, [60] * 7, [28, 21, 20, 18, 12, 12, 9]),
+        table_of(3, [20] * 9, [9, 8, 8, 7, 6, 6, 6, 5, 5]),
+        table_of(4, [30] * 11, [16, 14, 13, 12, 12, 12, 10, 9, 8, 8, 6]),
+        table_of(3, [100] * 16, [27, 27, 26, 24, 24, 23, 20, 20, 18, 16, 16, 15, 13, 13, 10, 8]),
+        table_of(4, [60] * 16, [22, 21, 21, 21, 21, 18, 18, 16, 15, 14, 13, 10, 9, 8, 7, 6]),
+        # the lower core has more room than the higher, and less: it has the task all the same
+        table_of(2, [100] * 4, [60, 45, 41, 10]),
+        table_of(2, [100] * 3, [60, 50, 30]),
+        table_of(3, [100] * 7, [70, 60, 50, 40, 30, 5, 4]),
+        table_of(2, [20] * 6, [14, 8, 7, 4, 3, 3]),
+        table_of(2, [20] * 6, [15, 10, 6, 4, 3, 2]),
+        table_of(3, [20] * 7, [20, 14, 8, 7, 5, 4, 2]),
+        table_of(4, [20] * 8, [20, 15, 14, 9, 7, 5, 4, 3]),
+        # after a task that has no core lighter ones have one
+        table_of(1, [10] * 4, [7, 6, 5, 3]),
+        table_of(2, [10] * 5, [8, 7, 6, 2, 2]),
+        table_of(3, [10] * 7, [8, 7, 7, 4, 3, 3, 2]),
+        table_of(4, [10] * 8, [6, 6, 6, 6, 5, 4, 4, 4]),
+        # every core is full; and then one part more, last or first in the table
+        table_of(4, [100] * 16, [25] * 16),
+        table_of(4, [2, 3, 6] * 4, [1, 1, 1] * 4),
+        table_of(4, [2, 3, 6] * 4 + [10_000], [1, 1, 1] * 4 + [1]),
+        table_of(3, [100] * 16, [20] * 15 + [1]),
+        table_of(3, [100] * 16, [1] + [20] * 15),
+        # one part in 999,999 too much for a core, and a core exactly full
+        table_of(2, [999, 1001, 999], [500, 500, 500]),
+        table_of(2, [999, 1001, 999], [499, 501, 500]),
+        # of equal demands the longest period, then the last number, has no core
+        table_of(2, [1000, 10, 20], [600, 6, 12]),
+        table_of(2, [10] * 3, [6, 6, 6]),
+        table_of(3, [40, 20, 10, 40, 20], [24, 12, 6, 24, 12]),
+        table_of(4, [20 * k for k in up[:10]], [12 * k for k in up[:10]]),
+        table_of(3, [100] * 16, [19] * 16),
+        # the most that can be rejected, and a light task on the last core
+        table_of(1, [999, 1001] * 8, [999, 1001] * 8),
+        table_of(4, [999, 1001] * 8, [999, 1001] * 8),
+        table_of(4, [10] * 4, [10, 10, 10, 1]),
+        # planning order is table order, reversed or mixed
+        table_of(3, [100] * 16, [3 * k for k in up[::-1]]),
+        table_of(3, [100] * 16, [3 * k for k in up]),
+        table_of(3, [100] * 16, [3 * (7 * k % 17) for k in up]),
     ]
 
 

@@ -66,6 +66,6 @@ module _ (T : Problem) (order : List ℕ) (perm : Permutation (length (T .demand
   quick-guaranteed = record {
     feasible = feasible-scatter T order perm (firstFit P) (first-feasible P);
     lowest = λ k h. rw (gather-scatter n order perm (firstFit P) (feasible-long T order perm (firstFit P) (first-feasible P))) (first-lowest P k (omega (arith, long)));
-    exact = exact-answer;
+    exact = λ z limit h. exact-answer z limit h;
     descent = ap (scatter order) (ap (stored P) (sym long) ∙ descends .stores);
   }

@@ -12,6 +12,7 @@ use Rattle.taskset.specs.declared.Reading.{Reading}
 use Rattle.planning.specs.Order.{planningOrder}
 use Rattle.planner.specs.Plan.{verdictOutcome}
 use Rattle.planner.specs.declared.Allocation.{Allocation}
+use Rattle.quick.specs.declared.QuickPlan.{QuickPlan}
 use Rattle.edf.specs.declared.Slot.{Slot}
 use Rattle.start.specs.declared.Started.{Started}
 use Rattle.runner.specs.declared.Ticked.{Ticked}
@@ -21,7 +22,7 @@ use Rattle.text.specs.Joined.{joined, fields}
 use Rattle.text.specs.Shown.{shown, Appended}
 use Rattle.text.specs.declared.Text.{Text}
 use Rattle.text.proofs.ClipLaws.{append-both, append-within, append-whole}
-use Rattle.cases.specs.Lines.{outcomeFields, slotFields, sizeFields, taskNumbers, taskFields, tableLine, verdictNumber, planLine, coreLine, tickLine, recordLine}
+use Rattle.cases.specs.Lines.{outcomeFields, slotFields, sizeFields, taskNumbers, taskFields, tableLine, verdictNumber, planLine, coreLine, tickLine, recordLine, quickLine}
 
 -- number and place
 module _ {t r : Text} {o : Outcome} where
@@ -65,6 +66,13 @@ pub plan-whole : {t a b d e f line : Text} (plan : Allocation) {o : Outcome} {nu
 unfolding planLine
 plan-whole plan z i p j q u v w x =
     append-whole z (append-both (append-both (append-both (append-both (append-both (rw i at p) (rw j at q)) u) v) w) x) (omega arith)
+
+-- a quick plan
+pub quick-whole : {t a b d line : Text} (plan : QuickPlan) {o : Outcome} → shown t ≡ [] → plan .outcome ≡ o → Appended t (outcomeFields o) 41 a
+    → Appended a (field (plan .rejected)) 21 b → Appended b (fields (plan .placement)) 336 d → Appended d (ascii "\n") 1 line
+    → shown line ≡ quickLine plan
+unfolding quickLine
+quick-whole plan e i p q u v = append-whole e (append-both (append-both (append-both (rw (sym i) at p) q) u) v) (omega arith)
 
 -- a fresh core
 pub core-whole : {t a b line : Text} (s : Started) {o : Outcome} → shown t ≡ [] → s .outcome ≡ o → Appended t (outcomeFields o) 41 a

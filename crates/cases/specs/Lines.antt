@@ -14,6 +14,7 @@ use Rattle.planner.specs.Plan.{verdictOutcome}
 use Rattle.planner.specs.declared.Allocation.{Allocation}
 use Rattle.planner.specs.declared.Verdict.{Verdict}
 use Rattle.planner.specs.declared.Verdict.the-variants.{All, Short, Spent, Refused}
+use Rattle.quick.specs.declared.QuickPlan.{QuickPlan}
 use Rattle.edf.specs.declared.Slot.{Slot}
 use Rattle.start.specs.declared.Started.{Started}
 use Rattle.runner.specs.declared.Ticked.{Ticked}
@@ -65,3 +66,7 @@ tickLine t = outcomeFields (t .outcome) ++ field (t .run) ++ field (t .late) ++ 
 -- code 4: one tick, with the record handed back
 unfoldable pub recordLine : Ticked → List ℕ
 recordLine t = outcomeFields (t .outcome) ++ field (t .run) ++ field (t .late) ++ joined slotFields (t .core .slots) ++ ascii "\n"
+
+-- code 5: a quick plan
+unfoldable pub quickLine : QuickPlan → List ℕ
+quickLine p = outcomeFields (p .outcome) ++ field (p .rejected) ++ fields (p .placement) ++ ascii "\n"

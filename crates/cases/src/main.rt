@@ -4,6 +4,7 @@ mod blocks;
 mod cores;
 mod lines;
 mod plans;
+mod quicks;
 mod records;
 mod tables;
 
@@ -17,32 +18,26 @@ fn read_exact(buffer: &mut [u8]) -> bool {
     block.whole & (block.length == length)
 }
 
-// Reads a table and prints its line; false where the case is not whole or the output fails.
-fn run_table() -> bool {
-    let mut table = [0u8; 1024];
-    let block = blocks::read_block(&mut table);
-    if !block.whole {
-        return false;
-    }
-    let n = block.length;
-    let reading = stored::read_table(&table[..n]);
+// Prints a table's line; false where the output fails.
+fn run_table(table: &[u8]) -> bool {
+    let reading = stored::read_table(table);
     console::show(tables::table_line(reading)).whole
 }
 
-// Reads a table and a limit and prints the plan's line; false where the case is not whole or the output fails.
-fn run_plan() -> bool {
-    let mut table = [0u8; 1024];
-    let block = blocks::read_block(&mut table);
-    if !block.whole {
-        return false;
-    }
-    let n = block.length;
+// Reads a limit and prints the plan's line; false where the case is not whole or the output fails.
+fn run_plan(table: &[u8]) -> bool {
     let mut limit = [0u8; 4];
     if !read_exact(&mut limit) {
         return false;
     }
-    let plan = planner::plan(&table[..n], wire::word(&limit, 0));
+    let plan = planner::plan(table, wire::word(&limit, 0));
     console::show(plans::plan_line(plan)).whole
+}
+
+// Prints the quick plan's line; false where the output fails.
+fn run_quick(table: &[u8]) -> bool {
+    let plan = quick::quick_plan(table);
+    console::show(quicks::quick_line(plan)).whole
 }
 
 // Reads the requests of each tick, and if the core was accepted makes the tick and prints its line; false where the case is not whole
@@ -93,21 +88,15 @@ fn run_started(table: &[u8], placement: &[u8]) -> bool {
     run_ticks(started.core, is_accepted(outcome), wire::word(&count, 0))
 }
 
-// Reads a table and a placement and runs the core; false where the case is not whole or the output fails.
-fn run_core() -> bool {
-    let mut table = [0u8; 1024];
-    let first = blocks::read_block(&mut table);
-    if !first.whole {
-        return false;
-    }
+// Reads a placement and runs the core; false where the case is not whole or the output fails.
+fn run_core(table: &[u8]) -> bool {
     let mut placement = [0u8; 1024];
-    let second = blocks::read_block(&mut placement);
-    if !second.whole {
+    let block = blocks::read_block(&mut placement);
+    if !block.whole {
         return false;
     }
-    let n = first.length;
-    let p = second.length;
-    run_started(&table[..n], &placement[..p])
+    let n = block.length;
+    run_started(table, &placement[..n])
 }
 
 // Reads a record and sixteen requests and prints the tick's line; false where the case is not whole or the output fails.
@@ -125,14 +114,33 @@ fn run_record() -> bool {
     console::show(records::record_line(core.tick(blocks::numbers_of(&requests)))).whole
 }
 
+// Runs a case whose first block was this table; false where there is no such code, the case is not whole, or the output fails.
+fn run_on(code: u8, table: &[u8]) -> bool {
+    match code {
+        1 => run_table(table),
+        2 => run_plan(table),
+        3 => run_core(table),
+        5 => run_quick(table),
+        _ => false,
+    }
+}
+
+// Reads a table and runs the case; false where it is not whole or the output fails.
+fn run_tabled(code: u8) -> bool {
+    let mut table = [0u8; 1024];
+    let block = blocks::read_block(&mut table);
+    if !block.whole {
+        return false;
+    }
+    let n = block.length;
+    run_on(code, &table[..n])
+}
+
 // Runs a case by its code; false where there is no such code, the case is not whole, or the output fails.
 fn run_case(code: u8) -> bool {
     match code {
-        1 => run_table(),
-        2 => run_plan(),
-        3 => run_core(),
         4 => run_record(),
-        _ => false,
+        _ => run_tabled(code),
     }
 }
 

@@ -10,6 +10,7 @@ use Rattle.stored.specs.Form.{fieldsOf, coreCount}
 use Rattle.stored.specs.Limits.{Valid}
 use Rattle.stored.proofs.TableLaws.{reading-decides, read-reads}
 use Rattle.planner.proofs.PromiseLaws.{plan-decides, plan-promised}
+use Rattle.quick.proofs.PromiseLaws.{quick-decides, quick-answered}
 use Rattle.firmware.proofs.CallLaws.{call-answers, refusal-writes-nothing}
 use Rattle.runner.proofs.AnswerLaws.{answer-decides, answer-refused}
 use Rattle.start.specs.Starts.{startOf, loadOf}
@@ -21,12 +22,14 @@ pub demand-one : DemandOne
 demand-one = record {
   within = λ table limit v. plan-decides table limit refl .accepted .1 v;
   outside = λ table limit. plan-decides table limit refl .refused;
+  quick = λ table. quick-decides table refl;
   reader = reading-decides;
   fresh = λ table placement core. start-decides table placement core refl;
   tick = answer-decides 0;
   entry = call-answers;
   reads = λ table. read-reads table refl;
   plans = λ table limit. plan-promised table limit refl;
+  quicks = λ table. quick-answered table refl .refused;
   starts = λ table placement core. start-promised table placement core refl;
   ticks = answer-refused 0;
   unchanged = refusal-writes-nothing;

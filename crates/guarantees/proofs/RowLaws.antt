@@ -20,14 +20,19 @@ use Rattle.allocation.specs.Walk.{upFrom, choices, stepInto, storedAfter, bound
 use Rattle.allocation.specs.TableOrder.{tableAnswer}
 use Rattle.planner.specs.Problem.{tableProblem, orderOf}
 use Rattle.planner.specs.Plan.{verdictOf, allocationOf, planFor, refusedPlan, planBy, planOf, verdictOutcome}
+use Rattle.allocation.specs.FirstFit.{lowestFit, fitFrom, firstFit, tableFit}
+use Rattle.quick.specs.Quick.{quickPlacement, quickFor, refusedQuick, quickBy, quickOf}
 use Rattle.edf.specs.Slots.{slotTest, firstSlot}
 use Rattle.edf.specs.Tick.{owedFor, release, releaseAll, chosen, advanceAll, stepped, refusedTick, tick}
 use Rattle.edf.specs.Fresh.{freshSlot, freshSlots}
 use Rattle.start.specs.Starts.{loadOf, aboveAt, refusedStart, startBy, placingOutcome, startOutcome, startOf}
 use Rattle.text.specs.Decimal.{front, digitsBy, decimal, field}
-use Rattle.report.specs.Output.{refusalLine, sizesLine, taskLine, taskLines, verdictWord, summaryLine, planLines, linesBy, linesFor, outputOf}
-use Rattle.guarantees.specs.Rows.{more, rows, AllHold}
+use Rattle.listing.specs.Lines.{refusalLine, sizesLine, taskLine, taskLines, tableLines}
+use Rattle.listing.specs.Printed.{printed}
+use Rattle.report.specs.Output.{verdictWord, summaryLine, planLines, outputOf}
+use Rattle.quickreport.specs.Output.{quickSummary, quickLines, quickOutputOf}
+use Rattle.guarantees.specs.Rows.{quicks, more, rows, AllHold}
 
 pub rows-hold : AllHold rows
-unfolding rows more first firstFrom row tab upTo sumOver euclid gcd lcm lcms insert sorted position scatter demandOn _then_ refuseIf refuseAt inOrder wordAt fieldsOf multipleTo hyperperiodOf demandOf badPeriod badBudget exceeds tableOutcome taskSetOf acceptedReading readingBy readingOf precedes tried upFrom choices stepInto storedAfter boundAfter entered tryAll visit trace stored answer tableAnswer tableProblem orderOf verdictOf allocationOf planFor refusedPlan planBy planOf verdictOutcome slotTest firstSlot owedFor release releaseAll chosen advanceAll stepped refusedTick tick freshSlot freshSlots loadOf aboveAt refusedStart startBy placingOutcome startOutcome startOf front digitsBy decimal field refusalLine sizesLine taskLine taskLines verdictWord summaryLine planLines linesBy linesFor outputOf
-rows-hold = (refl, (refl, (refl, (refl, (refl, (refl, (refl, (refl, (refl, (refl, ((refl, refl), (refl, (refl, (refl, (refl, (refl, (refl, (refl, (refl, (refl, (refl, (refl, (refl, (refl, (refl, (refl, (refl, tt)))))))))))))))))))))))))))
+unfolding rows more quicks first firstFrom row tab upTo sumOver euclid gcd lcm lcms insert sorted position scatter demandOn _then_ refuseIf refuseAt inOrder wordAt fieldsOf multipleTo hyperperiodOf demandOf badPeriod badBudget exceeds tableOutcome taskSetOf acceptedReading readingBy readingOf precedes tried upFrom choices stepInto storedAfter boundAfter entered tryAll visit trace stored answer tableAnswer tableProblem orderOf verdictOf allocationOf planFor refusedPlan planBy planOf verdictOutcome slotTest firstSlot owedFor release releaseAll chosen advanceAll stepped refusedTick tick freshSlot freshSlots loadOf aboveAt refusedStart startBy placingOutcome startOutcome startOf front digitsBy decimal field refusalLine sizesLine taskLine taskLines tableLines verdictWord summaryLine planLines printed outputOf lowestFit fitFrom firstFit tableFit quickPlacement quickFor refusedQuick quickBy quickOf quickSummary quickLines quickOutputOf
+rows-hold = (refl, (refl, (refl, (refl, (refl, (refl, (refl, (refl, (refl, (refl, ((refl, refl), (refl, (refl, (refl, (refl, (refl, (refl, (refl, (refl, (refl, (refl, (refl, (refl, (refl, (refl, (refl, (refl, (refl, (refl, (refl, (refl, (refl, (refl, (refl, (refl, tt)))))))))))))))))))))))))))))))))))

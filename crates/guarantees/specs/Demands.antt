@@ -18,6 +18,8 @@ use Rattle.stored.specs.Tests.{readingOf}
 use Rattle.stored.specs.Limits.{Valid, conditions}
 use Rattle.planner.specs.Plan.{planOf, verdictOutcome}
 use Rattle.planner.specs.Promise.{Promise, Plans}
+use Rattle.quick.specs.Quick.{quickOf}
+use Rattle.quick.specs.Promise.{quickChoices, Safe, Lowest, Exact, NoLess, RefusedQuick}
 use Rattle.firmware.specs.Call.{codeFor, bufferAfter}
 use Rattle.firmware.specs.Service.{Answers}
 use Rattle.edf.specs.Guarantee.{TickGuarantee}
@@ -37,15 +39,17 @@ pub record DemandOne : Type 0 where
   -- A call outside its limits is refused with the number and place that the paper gives: those of the first condition that holds, and never otherwise.
   pub outside : (table : List ℕ) (limit number place : ℕ) → 1 ≤ number
       → Gives (verdictOutcome (planOf table limit .verdict)) number place ↔ First (conditions table) number place
-  -- So are the calls of the reader, of a fresh core, of a tick (its answer r is any that the definition gives) and of the firmware.
+  -- So are the calls of the quick planner, of the reader, of a fresh core, of a tick (its answer r is any that the definition gives) and of the firmware.
+  pub quick : (table : List ℕ) → Decides (Valid table) (conditions table) (quickOf table .outcome)
   pub reader : (table : List ℕ) → Decides (Valid table) (conditions table) (readingOf table .outcome)
   pub fresh : (table placement : List ℕ) (core : ℕ) → Decides (ValidStart table placement core) (startConditions table placement core) (startOf table placement core .outcome)
   pub tick : (core : Core) (requests : List ℕ) (r : Ticked) → tickAnswer r ≡ tickOf 0 (core .slots) requests
       → Decides (ValidRecord 0 (core .slots)) (recordConditions 0 (core .slots)) (r .outcome)
   pub entry : (table buffer : List ℕ) (limit : ℕ) → Answers table buffer (codeFor table limit (length buffer)) (bufferAfter table limit buffer)
-  -- A refused reading, plan or fresh core is zeros, each with its own promise; a refused tick hands back its record, run 0 and late 0.
+  -- A refused reading, plan, quick plan or fresh core is zeros, each with its own promise; a refused tick hands back its record, run 0 and late 0.
   pub reads : (table : List ℕ) → Reads (readingOf table)
   pub plans : (table : List ℕ) (limit : ℕ) → Plans table limit (planOf table limit)
+  pub quicks : (table : List ℕ) → numberIn (quickOf table .outcome) ≢ 0 → RefusedQuick (quickOf table)
   pub starts : (table placement : List ℕ) (core : ℕ) → Starts table placement core (startOf table placement core)
   pub ticks : (core : Core) (requests : List ℕ) (r : Ticked) → tickAnswer r ≡ tickOf 0 (core .slots) requests → numberIn (r .outcome) ≢ 0 → PlainRefusal core r
   -- And lent memory then holds what it held before: tables and placements are lent to be read, and the firmware's plan buffer is unchanged.
@@ -58,6 +62,19 @@ DemandTwo = (table : List ℕ) (limit : ℕ) → Valid table → Promise (fields
 -- the exact load that a placement puts on a core: the sum of the demands of the tasks whose entry is that core
 abbrev pub exactLoad : List ℕ → List ℕ → ℕ → ℕ
 exactLoad table placement core = sumTo (λ k. cond (eqb (entry placement k) core) (demandOf (fieldsOf table) k) 0) (taskCount table)
+
+-- The quick plan. Of demand 2 the first sentence binds it; the rest says what it is, and how it stands to the exact plan.
+pub record QuickDemand : Type 0 where
+  -- No plan puts an exact load above one on any core; each task has a core of the table, or is left out.
+  pub safe : (table : List ℕ) → Valid table → (core : ℕ) → 1 ≤ core → core ≤ coreCount table
+      → exactLoad table (quickChoices (fieldsOf table) (quickOf table)) core ≤ hyperperiodOf (fieldsOf table)
+  pub placed : (table : List ℕ) → Valid table → Safe (fieldsOf table) (quickOf table)
+  -- Each task, in the planning order, is on the lowest core where it fits, or left out.
+  pub lowest : (table : List ℕ) → Valid table → Lowest (fieldsOf table) (quickOf table)
+  -- If it leaves nothing out, the exact planner with a limit of at least n gives the same placement in n steps.
+  pub exact : (table : List ℕ) → Exact table (quickOf table)
+  -- Its left-out weight is never below the exact planner's, unless that one was spent.
+  pub no-less : (table : List ℕ) → NoLess table (quickOf table)
 
 -- A placement of a table: one entry for each task, a core of the table or 0.
 pub record ValidPlacement (table placement : List ℕ) : Type 0 where

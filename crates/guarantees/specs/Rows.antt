@@ -6,11 +6,14 @@ use mathlib.Core.List.{List, [], _∷_, _++_}
 use lib.ListN.{length, replicate}
 use Rattle.numbers.specs.Rows.{row, entry}
 use Rattle.refusal.specs.Conditions.{Gives}
+use Rattle.refusal.specs.declared.Outcome.the-variants.{Accepted}
 use Rattle.stored.specs.Form.{tableOf}
 use Rattle.stored.specs.Tests.{readingOf}
 use Rattle.planner.specs.Plan.{planOf, verdictOutcome}
 use Rattle.planner.specs.declared.Verdict.{Verdict}
 use Rattle.planner.specs.declared.Verdict.the-variants.{All, Short, Spent}
+use Rattle.quick.specs.Quick.{quickOf}
+use Rattle.quickreport.specs.Output.{quickOutputOf}
 use Rattle.edf.specs.declared.Slot.{Slot}
 use Rattle.edf.specs.Slots.{emptySlot}
 use Rattle.edf.specs.Guarantee.{runs}
@@ -19,25 +22,30 @@ use Rattle.start.specs.Starts.{startOf}
 use Rattle.text.specs.Ascii.{ascii}
 use Rattle.report.specs.Output.{outputOf}
 
--- A row: a table's hyperperiod; a plan with its verdict, cores, left-out demand and steps; a refusal with its number and place;
--- the tasks run by the ticks of a fresh core; one tick of a given record, with the task run, the late task and the next record;
--- the whole output of the program.
+-- A row: a table's hyperperiod; a plan with its verdict, cores, left-out demand and steps; a quick plan with its cores and left-out demand;
+-- a refusal with its number and place; the tasks run by the ticks of a fresh core; one tick of a given record, with the task run, the
+-- late task and the next record;
+-- the whole output of the program, and that of the quick one.
 pub data Row : Type 0 where
   frames : List ℕ → ℕ → Row
   plans : List ℕ → ℕ → Verdict → List ℕ → ℕ → ℕ → Row
+  quick : List ℕ → List ℕ → ℕ → Row
   refuses : List ℕ → ℕ → ℕ → ℕ → Row
   ticks : List ℕ → List ℕ → ℕ → List (List ℕ) → List ℕ → Row
   tickOnce : List Slot → List ℕ → ℕ → ℕ → List Slot → Row
   prints : List ℕ → String → Row
+  printsQuick : List ℕ → String → Row
 
 abbrev pub Holds : Row → Type 0
 Holds (frames bytes hyperperiod) = readingOf bytes .tasks .hyperperiod ≡ hyperperiod
 Holds (plans bytes limit verdict cores rejected steps) =
     planOf bytes limit ≡ record { verdict = verdict; placement = row 0 (length cores) (entry cores); rejected = rejected; steps = steps }
+Holds (quick bytes cores rejected) = quickOf bytes ≡ record { outcome = Accepted; placement = row 0 (length cores) (entry cores); rejected = rejected }
 Holds (refuses bytes limit number place) = Gives (verdictOutcome (planOf bytes limit .verdict)) number place
 Holds (ticks bytes placement core requests ran) = runs (ticked 0 (startOf bytes placement core .core .slots) requests) ≡ ran
 Holds (tickOnce slots requests run late next) = tick 0 slots requests ≡ record { refusal = 0; place = 0; slots = next; run = run; late = late }
 Holds (prints bytes output) = outputOf bytes ≡ ascii output
+Holds (printsQuick bytes output) = quickOutputOf bytes ≡ ascii output
 
 -- every row of a list holds
 abbrev pub AllHold : List Row → Type 0
@@ -50,6 +58,13 @@ listing = tableOf 1 (10 ∷ 10 ∷ 10 ∷ []) (7 ∷ 6 ∷ 4 ∷ [])
 
 abbrev pub rowC : List ℕ
 rowC = tableOf 1 (2 ∷ 3 ∷ 6 ∷ []) (1 ∷ 1 ∷ 1 ∷ [])
+
+-- that of row d, and one whose six tasks fill its two cores
+abbrev pub rowD : List ℕ
+rowD = tableOf 2 (10 ∷ 10 ∷ 10 ∷ 10 ∷ 10 ∷ []) (5 ∷ 5 ∷ 4 ∷ 3 ∷ 3 ∷ [])
+
+abbrev pub tight : List ℕ
+tight = tableOf 2 (10 ∷ 10 ∷ 10 ∷ 10 ∷ 10 ∷ 10 ∷ []) (5 ∷ 4 ∷ 3 ∷ 3 ∷ 3 ∷ 2 ∷ [])
 
 -- sixteen requests: full ones, and the same with none from task 1
 abbrev pub full : List ℕ
@@ -64,6 +79,21 @@ slot period budget until remaining = record { period = period; budget = budget; 
 
 abbrev pub front : List Slot → List Slot
 front slots = slots ++ replicate 13 emptySlot
+
+-- Quick plans. Row d's table, where first fit places all; six tasks that fill two cores, where first fit leaves out the last and the exact
+-- plan nothing; two that fill a core exactly; the listing, where first fit leaves out more than the exact plan; the request's order, by which
+-- the axis loop goes first; a refusal, and what the program prints.
+unfoldable pub quicks : List Row
+quicks =
+    quick rowD (1 ∷ 1 ∷ 2 ∷ 2 ∷ 2 ∷ []) 0
+    ∷ quick tight (1 ∷ 1 ∷ 2 ∷ 2 ∷ 2 ∷ 0 ∷ []) 2
+    ∷ plans tight 1000000 All (1 ∷ 2 ∷ 1 ∷ 2 ∷ 2 ∷ 1 ∷ []) 0 11
+    ∷ quick (tableOf 1 (10 ∷ 10 ∷ []) (3 ∷ 7 ∷ [])) (1 ∷ 1 ∷ []) 0
+    ∷ quick listing (1 ∷ 0 ∷ 0 ∷ []) 10
+    ∷ quick (tableOf 2 (1000 ∷ 10 ∷ []) (600 ∷ 6 ∷ [])) (2 ∷ 1 ∷ []) 0
+    ∷ printsQuick tight "table 6 2 10\n1 10 5 1\n2 10 4 1\n3 10 3 2\n4 10 3 2\n5 10 3 2\n6 10 2 0\nquick 2\n"
+    ∷ printsQuick (tableOf 1 (1000 ∷ 1001 ∷ []) (1 ∷ 1 ∷ [])) "refused 7 2\n"
+    ∷ []
 
 -- Of two tasks of equal weight the lower number is placed.
 -- Two tasks that no core holds together: display and axis loop of equal weight, where the axis loop's shorter period gives it the lower core;
@@ -84,7 +114,7 @@ more =
     ∷ plans (tableOf 1 (10 ∷ 10 ∷ 10 ∷ 10 ∷ 10 ∷ []) (8 ∷ 6 ∷ 3 ∷ 3 ∷ 3 ∷ [])) 10 Spent (0 ∷ 1 ∷ 1 ∷ 0 ∷ 0 ∷ []) 14 10
     ∷ ticks (tableOf 1 (3 ∷ []) (2 ∷ [])) (1 ∷ []) 1 (replicate 3 (replicate 16 1)) (1 ∷ 0 ∷ 0 ∷ [])
     ∷ prints listing "table 3 1 10\n1 10 7 0\n2 10 6 1\n3 10 4 1\nshort 7 6\n"
-    ∷ prints (tableOf 2 (10 ∷ 10 ∷ 10 ∷ 10 ∷ 10 ∷ []) (5 ∷ 5 ∷ 4 ∷ 3 ∷ 3 ∷ [])) "table 5 2 10\n1 10 5 1\n2 10 5 1\n3 10 4 2\n4 10 3 2\n5 10 3 2\nall 0 5\n"
+    ∷ prints rowD "table 5 2 10\n1 10 5 1\n2 10 5 1\n3 10 4 2\n4 10 3 2\n5 10 3 2\nall 0 5\n"
     ∷ prints (tableOf 1 (10 ∷ 10 ∷ []) (3 ∷ 8 ∷ [])) "table 2 1 10\n1 10 3 0\n2 10 8 1\nshort 3 2\n"
     ∷ prints (tableOf 1 (1000 ∷ 1001 ∷ []) (1 ∷ 1 ∷ [])) "refused 7 2\n"
     ∷ prints (tableOf 1 (10 ∷ []) (11 ∷ [])) "refused 6 1\n"
@@ -92,7 +122,7 @@ more =
     ∷ prints [] "refused 1 0\n"
     ∷ tickOnce (front (slot 8 1 3 0 ∷ slot 10 3 0 2 ∷ slot 5 2 0 1 ∷ [])) (9 ∷ 1 ∷ 9 ∷ replicate 13 0) 3 2
     (front (slot 8 1 2 0 ∷ slot 10 3 9 1 ∷ slot 5 2 4 1 ∷ []))
-    ∷ []
+    ∷ quicks
 
 -- rows a to i and k; where the paper gives no limit it is 1,000,000
 unfoldable pub rows : List Row
@@ -101,7 +131,7 @@ rows =
     ∷ plans (tableOf 1 (10 ∷ 10 ∷ []) (3 ∷ 8 ∷ [])) 1000000 Short (0 ∷ 1 ∷ []) 3 2
     ∷ frames rowC 6
     ∷ plans rowC 1000000 All (1 ∷ 1 ∷ 1 ∷ []) 0 3
-    ∷ plans (tableOf 2 (10 ∷ 10 ∷ 10 ∷ 10 ∷ 10 ∷ []) (5 ∷ 5 ∷ 4 ∷ 3 ∷ 3 ∷ [])) 1000000 All (1 ∷ 1 ∷ 2 ∷ 2 ∷ 2 ∷ []) 0 5
+    ∷ plans rowD 1000000 All (1 ∷ 1 ∷ 2 ∷ 2 ∷ 2 ∷ []) 0 5
     ∷ plans listing 6 Short (0 ∷ 1 ∷ 1 ∷ []) 7 6
     ∷ plans listing 5 Spent (1 ∷ 0 ∷ 0 ∷ []) 10 5
     ∷ plans listing 0 Spent (0 ∷ 0 ∷ 0 ∷ []) 17 0

@@ -188,7 +188,7 @@ unfolding planBy refusedPlan verdictOutcome planFor allocationOf
 answer-outcome outcome.Accepted f limit = outcome-planned _ _
 answer-outcome (outcome.Refused c) f limit = refl
 
-plan-outcome : (s : List ℕ) (limit : ℕ) → verdictOutcome (planOf s limit .verdict) ≡ tableOutcome s
+pub plan-outcome : (s : List ℕ) (limit : ℕ) → verdictOutcome (planOf s limit .verdict) ≡ tableOutcome s
 unfolding planOf
 plan-outcome s limit = answer-outcome (tableOutcome s) (fieldsOf s) limit
 

@@ -86,17 +86,17 @@ module _ (f : Fields) (w : Within f) where
 
 -- ---- a table
 
-quick-outcome : (o : Outcome) (f : Fields) → quickBy o f .outcome ≡ o
+pub quick-outcome : (o : Outcome) (f : Fields) → quickBy o f .outcome ≡ o
 unfolding quickBy quickFor refusedQuick
 quick-outcome outcome.Accepted f = refl
 quick-outcome (outcome.Refused c) f = refl
 
 -- what is promised whether or not the table is valid
-record Answered (s : List ℕ) (r : QuickPlan) : Type 0 where
-  exact : Exact s r
-  no-less : NoLess s r
-  descent : Descent s r
-  refused : numberIn (r .outcome) ≢ 0 → RefusedQuick r
+pub record Answered (s : List ℕ) (r : QuickPlan) : Type 0 where
+  pub exact : Exact s r
+  pub no-less : NoLess s r
+  pub descent : Descent s r
+  pub refused : numberIn (r .outcome) ≢ 0 → RefusedQuick r
 
 answered : (s : List ℕ) (o : Outcome) → tableOutcome s ≡ o → Answered s (quickBy o (fieldsOf s))
 unfolding quickBy refusedQuick planOf planBy refusedPlan fieldsOf
@@ -117,9 +117,9 @@ answered s outcome.Accepted e =
 
 -- every clause of `quick_plan`, of an answer that equals the definition
 module _ (s : List ℕ) {r : QuickPlan} (e : r ≡ quickOf s) where
-  whole : Answered s r
+  pub quick-answered : Answered s r
   unfolding quickOf
-  whole = rw e (answered s (tableOutcome s) refl)
+  quick-answered = rw e (answered s (tableOutcome s) refl)
 
   for-valid : (Q : QuickPlan → Type 0) → (Within (fieldsOf s) → Q (quickFor (fieldsOf s))) → Valid s → Q r
   unfolding quickOf quickBy
@@ -129,20 +129,17 @@ module _ (s : List ℕ) {r : QuickPlan} (e : r ≡ quickOf s) where
   unfolding quickOf
   quick-decides = rw (e, quick-outcome (tableOutcome s) (fieldsOf s)) (decides (table-tested s))
 
+  pub quick-safe : Valid s → Safe (fieldsOf s) r
+  quick-safe = for-valid (Safe (fieldsOf s)) (safe (fieldsOf s))
+
+  pub quick-lowest : Valid s → Lowest (fieldsOf s) r
+  quick-lowest = for-valid (Lowest (fieldsOf s)) (lowest (fieldsOf s))
+
   -- one within the other, as the contract's clauses stand
   pub quick-promised : (r ≡ quickOf s) × (Decides (Valid s) (conditions s) (r .outcome)
       × ((Valid s → Safe (fieldsOf s) r) × ((Valid s → Lowest (fieldsOf s) r)
       × (Exact s r × (NoLess s r × (Descent s r × (numberIn (r .outcome) ≢ 0 → RefusedQuick r)))))))
   quick-promised = (
     e,
-    (
-      quick-decides,
-      (
-        for-valid (Safe (fieldsOf s)) (safe (fieldsOf s)),
-        (
-          for-valid (Lowest (fieldsOf s)) (lowest (fieldsOf s)),
-          (whole .exact, (whole .no-less, (whole .descent, whole .refused))),
-        ),
-      ),
-    ),
+    (quick-decides, (quick-safe, (quick-lowest, (quick-answered .exact, (quick-answered .no-less, (quick-answered .descent, quick-answered .refused)))))),
   )

@@ -109,6 +109,11 @@ pub gives-accepted : (o : Outcome) → Gives o 0 0 → o ≡ Accepted
 gives-accepted Accepted g = refl
 gives-accepted (Refused c) g = absurd (omega (arith, number-range c .0, g .0))
 
+pub gives-refused : (o : Outcome) (number place : ℕ) → 1 ≤ number → Gives o number place
+    → (cause : Cause) × (o ≡ Refused cause) × (numberOf cause ≡ number) × (placeOf cause ≡ place)
+gives-refused Accepted number place h g = absurd (omega (arith, g .0))
+gives-refused (Refused cause) number place h g = (cause, refl, g .0, g .1)
+
 accepted-gives : {o : Outcome} → o ≡ Accepted → Gives o 0 0
 accepted-gives e = (ap numberIn e, ap placeIn e)
 

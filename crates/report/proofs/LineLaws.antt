@@ -1,47 +1,14 @@
--- The lines of the output, piece by piece.
-use Prim.Native.Nat.{ℕ, suc, _+_, _*_, _≤_, _<_}
+-- The last line, piece by piece.
+use Prim.Native.Nat.{ℕ, _≤_}
 use mathlib.Core.Path.{_≡_}
-use mathlib.Core.List.{List}
-use lib.ListN.{length}
-use native.Mathlib.Omega.{arith}
-use native.Mathlib.Numerals.{add-one}
-use Rattle.numbers.specs.Rows.{entry}
-use Rattle.refusal.specs.Causes.{numberOf, placeOf}
-use Rattle.refusal.specs.declared.Cause.{Cause}
-use Rattle.taskset.specs.Fields.{periodAt, budgetAt}
-use Rattle.taskset.specs.declared.Fields.{Fields}
-use Rattle.taskset.specs.declared.TaskSet.{TaskSet}
 use Rattle.planner.specs.declared.Allocation.{Allocation}
 use Rattle.planner.specs.declared.Verdict.{Verdict}
 use Rattle.text.specs.Ascii.{ascii}
-use Rattle.text.specs.Decimal.{decimal, field}
+use Rattle.text.specs.Decimal.{field}
 use Rattle.text.specs.Shown.{Appended}
 use Rattle.text.specs.declared.Text.{Text}
-use Rattle.text.proofs.ClipLaws.{append-none, append-both, append-within}
-use Rattle.report.specs.Output.{refusalLine, sizesLine, taskLine, taskLines, verdictWord, summaryLine}
-
-pub refusal-made : {t a b d r : Text} (cause : Cause) {x y : ℕ} → Appended t (ascii "refused") 7 a
-    → x ≡ numberOf cause → Appended a (field x) 21 b
-    → y ≡ placeOf cause → Appended b (field y) 21 d
-    → Appended d (ascii "\n") 1 r → Appended t (refusalLine (numberOf cause) (placeOf cause)) 50 r
-unfolding refusalLine
-refusal-made cause p e q f s u = append-both (append-both (append-both p (rw e at q)) (rw f at s)) u
-
-pub sizes-made : {t a b d e r : Text} (s : TaskSet) → Appended t (ascii "table") 5 a
-    → Appended a (field (s .fields .n)) 21 b
-    → Appended b (field (s .fields .m)) 21 d
-    → Appended d (field (s .hyperperiod)) 21 e
-    → Appended e (ascii "\n") 1 r → Appended t (sizesLine s) 69 r
-unfolding sizesLine
-sizes-made s p q u v w = append-both (append-both (append-both (append-both p q) u) v) w
-
-pub task-made : {t a b d e r : Text} (task period budget core : ℕ) → Appended t (decimal task) 20 a
-    → Appended a (field period) 21 b
-    → Appended b (field budget) 21 d
-    → Appended d (field core) 21 e
-    → Appended e (ascii "\n") 1 r → Appended t (taskLine task period budget core) 84 r
-unfolding taskLine
-task-made task period budget core p q u v w = append-both (append-both (append-both (append-both p q) u) v) w
+use Rattle.text.proofs.ClipLaws.{append-both, append-within}
+use Rattle.report.specs.Output.{verdictWord, summaryLine}
 
 pub summary-made : {t a b d r : Text} (plan : Allocation) → Appended t (verdictWord (plan .verdict)) 7 a
     → Appended a (field (plan .rejected)) 21 b
@@ -54,26 +21,3 @@ summary-made plan p q u v = append-both (append-both (append-both p q) u) v
 pub word-made : {t r : Text} {v w : Verdict} {i : ℕ} → v ≡ w → Appended t (verdictWord w) i r → i ≤ 7
     → Appended t (verdictWord v) 7 r
 word-made e p h = rw e (append-within 7 p h)
-
--- The steps of the loop: the lines of the first k tasks are there.
-pub record Written (t : Text) (f : Fields) (cores : List ℕ) (r : Text) (k : ℕ) : Type 0 where
-  pub top : k ≤ f .n
-  pub few : f .n ≤ 16
-  pub is : Appended t (taskLines f cores k) (84 * k) r
-
-pub lines-start : (t : Text) (f : Fields) (cores : List ℕ) → length (t .bytes) ≡ 2048 → f .n ≤ 16 → Written t f cores t 0
-unfolding taskLines
-lines-start t f cores l h = record { top = omega arith; few = h; is = append-none t l }
-
-module _ {t : Text} {f : Fields} {cores : List ℕ} {r : Text} {k : ℕ} where
-  pub lines-next : {next : Text} → Written t f cores r k → k < f .n
-      → Appended r (taskLine (k + 1) (periodAt f k) (budgetAt f k) (entry cores k)) 84 next → Written t f cores next (k + 1)
-  unfolding taskLines
-  lines-next s h p = record {
-    top = omega arith;
-    few = s .few;
-    is = rw add-one (append-within (84 * suc k) (append-both (s .is) p) (omega arith));
-  }
-
-  pub lines-done : Written t f cores r k → f .n ≤ k → Appended t (taskLines f cores (f .n)) 1344 r
-  lines-done s h = let e : k ≡ f .n = omega (arith, s .top) in append-within 1344 (rw e at (s .is)) (omega (arith, s .few))

@@ -1,4 +1,5 @@
 -- What a reading says, by the outcome of the tests that it goes by.
+use Prim.Native.Nat.{_≤_}
 use mathlib.Core.Path.{_≡_, refl, sym, _∙_, ap}
 use Rattle.refusal.specs.Tests.{_then_, inOrder}
 use Rattle.refusal.specs.Conditions.{Decides}
@@ -9,7 +10,7 @@ use Rattle.refusal.proofs.TestLaws.{accepted≢refused, then-first, then-refuse
 use Rattle.refusal.proofs.ConditionLaws.{decides, accepts}
 use Rattle.taskset.specs.Tests.{sizeTests, limitTests, fieldsOutcome}
 use Rattle.taskset.specs.Reading.{taskSetOf, noTasks, refusedReading, acceptedReading, readingBy, checkOf}
-use Rattle.taskset.specs.Limits.{Sized, Within, fieldConditions, Reads}
+use Rattle.taskset.specs.Limits.{Sized, Within, fieldConditions, Checked, Reads}
 use Rattle.taskset.specs.declared.Fields.{Fields}
 use Rattle.taskset.specs.declared.Reading.{Reading}
 use Rattle.taskset.proofs.DemandLaws.{taskSet-exact}
@@ -41,6 +42,14 @@ module _ (f : Fields) where
     exact = λ e. absurd (accepted≢refused e refl);
     refused = λ n. record { tasks = refl; cores = refl; periods = refl; budgets = refl; hyperperiod = refl; demands = refl };
   }
+
+-- What is promised of an accepted reading: a checked task set, of at most sixteen tasks.
+module _ {r : Reading} {o : Outcome} (p : Reads r) (e : r .outcome ≡ o) (q : o ≡ Accepted) where
+  pub reading-checked : Checked (r .tasks)
+  reading-checked = p .checked (e ∙ q)
+
+  pub reading-few : r .tasks .fields .n ≤ 16
+  reading-few = p .checked (e ∙ q) .within .sizes .tasks .1
 
 -- ---- the steps of the programs
 

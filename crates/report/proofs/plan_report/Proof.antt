@@ -1,4 +1,4 @@
--- The first line, a line for each task, the last line: in all less than a text holds.
+-- The table's lines and the last line: in all less than a text holds.
 use Rattle.report.proofs.OutputLaws.{plan-whole}
 use borrow.Author.Needs.{needs}
 use Rattle.report.proofs.plan_report.Statement.{statement}
@@ -6,5 +6,4 @@ use Rattle.report.proofs.plan_report.Tie as tie
 
 pub plan-report-spec : {M : Type 1} → statement M
 plan-report-spec =
-    tie.close (tie.spec (λ c κs. search needs) (λ c κs. search needs) (λ c κs. search needs) (λ c κs. search needs)
-    (λ c. search (needs, plan-whole)))
+    tie.close (tie.spec (λ c κs. search needs) (λ c κs. search needs) (λ c κs. search needs) (λ c. search (needs, plan-whole)))

@@ -1,8 +1,8 @@
 -- The word and three numbers.
-use Rattle.report.proofs.LineLaws.{sizes-made}
+use Rattle.listing.proofs.LineLaws.{sizes-made}
 use borrow.Author.Needs.{needs}
-use Rattle.report.proofs.append_sizes.Statement.{statement}
-use Rattle.report.proofs.append_sizes.Tie as tie
+use Rattle.listing.proofs.append_sizes.Statement.{statement}
+use Rattle.listing.proofs.append_sizes.Tie as tie
 
 pub append-sizes-spec : {M : Type 1} → statement M
 append-sizes-spec =

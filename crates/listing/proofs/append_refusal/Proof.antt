@@ -1,8 +1,8 @@
 -- The word, the number and the place.
-use Rattle.report.proofs.LineLaws.{refusal-made}
+use Rattle.listing.proofs.LineLaws.{refusal-made}
 use borrow.Author.Needs.{needs}
-use Rattle.report.proofs.append_refusal.Statement.{statement}
-use Rattle.report.proofs.append_refusal.Tie as tie
+use Rattle.listing.proofs.append_refusal.Statement.{statement}
+use Rattle.listing.proofs.append_refusal.Tie as tie
 
 pub append-refusal-spec : {M : Type 1} → statement M
 append-refusal-spec =

@@ -1,9 +1,9 @@
 -- After k turns the lines of the first k tasks are there.
-use Rattle.report.proofs.LineLaws.{Written, lines-start, lines-next, lines-done}
+use Rattle.listing.proofs.LineLaws.{Written, lines-start, lines-next, lines-done}
 use Prim.Native.Nat.{_-_}
 use borrow.Author.Needs.{needs}
-use Rattle.report.proofs.append_tasks.Statement.{statement}
-use Rattle.report.proofs.append_tasks.Tie as tie
+use Rattle.listing.proofs.append_tasks.Statement.{statement}
+use Rattle.listing.proofs.append_tasks.Tie as tie
 
 abbrev Inv-loop : tie.InvT-loop
 Inv-loop f cores longer₀ k₀ longer k = Written longer₀ f cores longer k

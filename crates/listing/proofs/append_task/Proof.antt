@@ -1,8 +1,8 @@
 -- Four numbers.
-use Rattle.report.proofs.LineLaws.{task-made}
+use Rattle.listing.proofs.LineLaws.{task-made}
 use borrow.Author.Needs.{needs}
-use Rattle.report.proofs.append_task.Statement.{statement}
-use Rattle.report.proofs.append_task.Tie as tie
+use Rattle.listing.proofs.append_task.Statement.{statement}
+use Rattle.listing.proofs.append_task.Tie as tie
 
 pub append-task-spec : {M : Type 1} → statement M
 append-task-spec =

@@ -1,0 +1,76 @@
+// The lines that the outputs of programs share: a table with the cores of its tasks, and a refusal.
+ghost use mathlib.Core.Path.{_≡_};
+ghost use Prim.Native.Nat.{_≤_};
+ghost use Rattle.refusal.specs.Causes.{numberOf, placeOf};
+ghost use Rattle.text.specs.Shown.{shown, Appended};
+ghost use Rattle.listing.specs.Lines.{refusalLine, sizesLine, taskLine, taskLines, tableLines};
+use refusal::Cause;
+use taskset::Fields;
+use taskset::TaskSet;
+use text::Text;
+
+// A refusal: number and place.
+fn append_refusal(t: Text, cause: Cause) -> Text
+    ensures { λ r. ⌜ Appended t (refusalLine (numberOf cause) (placeOf cause)) 50 r ⌝ }
+{
+    let number = refusal::number(cause) as u64;
+    let place = refusal::place(cause) as u64;
+    let word = text::append_bytes(t, b"refused");
+    let fields = text::append_field(text::append_field(word, number), place);
+    text::append_bytes(fields, b"\n")
+}
+
+// First line: n, m and the hyperperiod.
+fn append_sizes(text: Text, t: TaskSet) -> Text
+    ensures { λ r. ⌜ Appended text (sizesLine t) 69 r ⌝ }
+{
+    let word = text::append_bytes(text, b"table");
+    let n = text::append_field(word, t.fields.n as u64);
+    let m = text::append_field(n, t.fields.m as u64);
+    let h = text::append_field(m, t.hyperperiod as u64);
+    text::append_bytes(h, b"\n")
+}
+
+// A task's line: its number, period, budget and core.
+fn append_task(t: Text, task: usize, period: u32, budget: u32, core: u8) -> Text
+    ensures { λ r. ⌜ Appended t (taskLine task period budget core) 84 r ⌝ }
+{
+    let number = text::append_decimal(t, task as u64);
+    let p = text::append_field(number, period as u64);
+    let b = text::append_field(p, budget as u64);
+    let c = text::append_field(b, core as u64);
+    text::append_bytes(c, b"\n")
+}
+
+// A line for each task.
+fn append_tasks(t: Text, f: Fields, cores: [u8; 16]) -> Text
+    requires { ⌜ f .n ≤ 16 ⌝ }
+    ensures { λ r. ⌜ Appended t (taskLines f cores (f .n)) 1344 r ⌝ }
+{
+    let mut longer = t;
+    let mut k = 0;
+    while k < f.n {
+        let next = append_task(longer, k + 1, f.periods[k], f.budgets[k], cores[k]);
+        longer = next;
+        k += 1;
+    }
+    longer
+}
+
+// The lines of a table and the cores of its tasks.
+pub fn append_table(text: Text, t: TaskSet, cores: [u8; 16]) -> Text
+    requires { ⌜ t .fields .n ≤ 16 ⌝ }
+    ensures { λ r. ⌜ Appended text (tableLines t cores) 1413 r ⌝ }
+{
+    let sizes = append_sizes(text, t);
+    let fields = t.fields;
+    append_tasks(sizes, fields, cores)
+}
+
+// The output for a refused table: the line of its refusal alone.
+pub fn refusal_report(cause: Cause) -> Text
+    ensures { λ r. ⌜ shown r ≡ refusalLine (numberOf cause) (placeOf cause) ⌝ }
+{
+    let nothing = text::empty();
+    append_refusal(nothing, cause)
+}

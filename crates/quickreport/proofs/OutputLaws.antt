@@ -1,0 +1,62 @@
+-- The whole output is the one that the definition gives.
+use Prim.Native.Nat.{ℕ}
+use mathlib.Core.Path.{_≡_, sym, _∙_, ap}
+use mathlib.Core.List.{List, []}
+use native.Mathlib.Omega.{arith}
+use Rattle.refusal.specs.declared.Cause.{Cause}
+use Rattle.refusal.specs.declared.Outcome.{Outcome}
+use Rattle.refusal.specs.declared.Outcome.the-variants as outcome
+use Rattle.taskset.specs.Reading.{taskSetOf, acceptedReading, readingBy}
+use Rattle.taskset.specs.declared.Fields.{Fields}
+use Rattle.taskset.specs.declared.Reading.{Reading}
+use Rattle.taskset.specs.declared.TaskSet.{TaskSet}
+use Rattle.stored.specs.Form.{fieldsOf}
+use Rattle.stored.specs.Tests.{tableOutcome, readingOf}
+use Rattle.stored.proofs.TableLaws.{read-tasks}
+use Rattle.quick.specs.Quick.{quickFor, quickBy, quickOf}
+use Rattle.quick.specs.declared.QuickPlan.{QuickPlan}
+use Rattle.quick.proofs.PromiseLaws.{quick-outcome}
+use Rattle.text.specs.Ascii.{ascii}
+use Rattle.text.specs.Decimal.{field}
+use Rattle.text.specs.Shown.{shown, Appended}
+use Rattle.text.specs.declared.Text.{Text}
+use Rattle.text.proofs.ClipLaws.{append-both, append-whole}
+use Rattle.listing.specs.Lines.{tableLines}
+use Rattle.listing.specs.Printed.{printed}
+use Rattle.listing.proofs.PrintedLaws.{printed-same, in-terms}
+use Rattle.quickreport.specs.Output.{quickSummary, quickLines, quickOutputOf, Reported}
+
+pub summary-made : {t a b r : Text} (plan : QuickPlan) → Appended t (ascii "quick") 5 a
+    → Appended a (field (plan .rejected)) 21 b → Appended b (ascii "\n") 1 r → Appended t (quickSummary plan) 27 r
+unfolding quickSummary
+summary-made plan p q u = append-both (append-both p q) u
+
+pub plan-whole : {t a r : Text} (s : TaskSet) (plan : QuickPlan) → shown t ≡ [] → Appended t (tableLines s (plan .placement)) 1413 a
+    → Appended a (quickSummary plan) 27 r → shown r ≡ quickLines s plan
+unfolding quickLines
+plan-whole s plan e p q = append-whole e (append-both p q) (omega arith)
+
+-- The outcome of a quick plan of a checked task set is no refusal.
+pub never-refused : (f : Fields) {plan : QuickPlan} {o : Outcome} {cause : Cause} → plan ≡ quickFor f → plan .outcome ≡ o → o ≡ outcome.Refused cause → ⊥
+unfolding quickFor
+never-refused f {plan} e q h =
+    let a : plan .outcome ≡ outcome.Accepted = rw e in
+    let z : _≡_ {A = ℕ} 0 1 = cc in
+    omega arith
+
+-- the definition, by the outcome of the table's tests
+output-is : (s : List ℕ) → quickOutputOf s ≡ printed (tableOutcome s) (quickLines (taskSetOf (fieldsOf s)) (quickFor (fieldsOf s)))
+unfolding quickOutputOf quickOf quickBy readingOf readingBy acceptedReading
+output-is s = rw (quick-outcome (tableOutcome s) (fieldsOf s)) (printed-same (tableOutcome s) (λ e. rw e))
+
+-- ---- from the reader's answer to the output: both clauses of `report`
+
+pub output-both : (s : List ℕ) {x : List ℕ} → x ≡ printed (tableOutcome s) (quickLines (taskSetOf (fieldsOf s)) (quickFor (fieldsOf s)))
+    → (x ≡ quickOutputOf s) × Reported s x
+output-both s e = (e ∙ sym (output-is s), in-terms s _ e)
+
+pub plan-printed : (s : List ℕ) {g : Reading} → g ≡ readingOf s → {o : Outcome} {plan : QuickPlan} {x : List ℕ} → g .outcome ≡ o → o ≡ outcome.Accepted
+    → plan ≡ quickFor (g .tasks .fields) → x ≡ quickLines (g .tasks) plan → x ≡ quickLines (taskSetOf (fieldsOf s)) (quickFor (fieldsOf s))
+unfolding taskSetOf
+plan-printed s {g} e q h w p =
+    p ∙ ap (λ a. quickLines (g .tasks) a) w ∙ ap (λ u. quickLines u (quickFor (u .fields))) (read-tasks s e (q ∙ h))
