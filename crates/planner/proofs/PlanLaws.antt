@@ -1,5 +1,5 @@
 -- The planner's steps make the plan that its definition names.
-use Prim.Native.Nat.{ℕ, zero, suc, _≤_, _<_, zero-le}
+use Prim.Native.Nat.{ℕ, zero, suc, _≤_, zero-le}
 use mathlib.Core.Path.{_≡_, refl, _∙_, ap}
 use mathlib.Core.Bool.{Bool, true, false}
 use mathlib.Core.List.{List}
@@ -8,7 +8,7 @@ use Rattle.numbers.specs.Reorder.{gather, scatter}
 use Rattle.numbers.specs.Rows.{row, entry, tab}
 use Rattle.numbers.specs.Sorting.{sorted}
 use Rattle.numbers.proofs.ReorderLaws.{scatter-padded}
-use Rattle.numbers.proofs.RowLaws.{getD-row}
+use Rattle.numbers.proofs.RowLaws.{row-each}
 use Rattle.refusal.specs.declared.Cause.{Cause}
 use Rattle.refusal.specs.declared.Outcome.the-variants as outcome
 use Rattle.taskset.specs.Demands.{hyperperiodOf, demandOf}
@@ -48,9 +48,20 @@ module _ {t : TaskSet} (c : Checked t) where
   unfolding taskSetOf
   demands-are = ap (λ x. x .demands) (c .is)
 
-  demand-most : (k : ℕ) → k < t .fields .n → getD (t .demands) k 0 ≤ t .hyperperiod
-  demand-most k h =
-      rw (demands-are, getD-row 0 (t .fields .n) (demandOf (t .fields)) k h few, hyperperiod-is) (demand-range (c .within) h .1)
+  pub demand-small : (k : ℕ) → getD (t .demands) k 0 ≤ t .hyperperiod
+  demand-small k =
+      rw (demands-are, hyperperiod-is)
+      (row-each 0 (λ x. x ≤ hyperperiodOf (t .fields)) (t .fields .n) (demandOf (t .fields)) zero-le (λ j h. demand-range (c .within) h .1) k)
+
+  pub ranges : (d : List ℕ) → ((k : ℕ) → getD d k 0 ≤ t .hyperperiod) → Ranges d (t .fields .n) (t .fields .m) (t .hyperperiod)
+  ranges d each = record {
+    some = c .within .sizes .tasks .0;
+    few = few;
+    one-core = c .within .sizes .cores .0;
+    few-cores = c .within .sizes .cores .1;
+    small = rw hyperperiod-is (c .within .multiple);
+    each = each;
+  }
 
   module _ {o : List ℕ} (e : o ≡ planningOrder t) where
     pub order-listed : Listed o (t .fields .n)
@@ -69,18 +80,8 @@ module _ {t : TaskSet} (c : Checked t) where
           rw (q, demands-are) (gathered-tasks order-listed (demandOf (t .fields)) ∙ ap (λ l. gather l (tab (t .fields .n) (demandOf (t .fields)))) front) in
           λ i. record { capacity = hyperperiod-is i; cores = t .fields .m; demands = w i; permits = anyCore }
 
-      demand-small : (k : ℕ) → getD d k 0 ≤ t .hyperperiod
-      demand-small k = rw q (gathered-each order-listed (λ x. x ≤ t .hyperperiod) (t .demands) zero-le demand-most k)
-
-      pub ranges : Ranges d (t .fields .n) (t .fields .m) (t .hyperperiod)
-      ranges = record {
-        some = c .within .sizes .tasks .0;
-        few = few;
-        one-core = c .within .sizes .cores .0;
-        few-cores = c .within .sizes .cores .1;
-        small = rw hyperperiod-is (c .within .multiple);
-        each = demand-small;
-      }
+      pub ordered-small : (k : ℕ) → getD d k 0 ≤ t .hyperperiod
+      ordered-small k = rw q (gathered-each order-listed (λ x. x ≤ t .hyperperiod) (t .demands) zero-le (λ j h. demand-small j) k)
 
       -- and what it finds, back in table order, is the plan
       module _ (limit : ℕ) {found : Found} (w : found ≡ foundOf (answer (problemOf (t .hyperperiod) (t .fields .m) (take (t .fields .n) d)) limit)) where

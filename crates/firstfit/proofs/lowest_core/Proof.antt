@@ -1,5 +1,5 @@
 -- A search for the first core with room.
-use Prim.Native.Nat.{_+_, _-_}
+use Prim.Native.Nat.{_-_}
 use Rattle.numbers.proofs.FirstLaws.{Seeking, seek-start, seek-none, looked-on, looked-found}
 use Rattle.firstfit.specs.Fitted.{holds}
 use borrow.Author.Needs.{needs}
@@ -12,11 +12,8 @@ Inv-loop d m h loads k₀ k = Seeking (holds loads d h) m k
 abbrev μ-loop : tie.MeasureT-loop
 μ-loop d m h loads k₀ k = m - k
 
-has-room-requires : tie.Need-has-room-requires Inv-loop μ-loop
-has-room-requires c κs = c .before .before .pre .1 (c .before .loop .k + 1)
-
 pub lowest-core-spec : {M : Type 1} → statement M
 lowest-core-spec =
     tie.close (tie.spec Inv-loop μ-loop (λ c. search (needs, seek-start)) (λ c. search needs) (λ c. search needs)
-    (λ c. search needs) has-room-requires (λ c. search needs) (λ c. search (needs, looked-found)) (λ c. search needs)
+    (λ c. search needs) (λ c κs. c .before .before .pre .1 _) (λ c. search needs) (λ c. search (needs, looked-found)) (λ c. search needs)
     (λ c. search needs) (λ c. search (needs, looked-on)) (λ c. search (needs, seek-none)))

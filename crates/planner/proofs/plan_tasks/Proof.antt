@@ -1,5 +1,5 @@
 -- The demands go into planning order, the walk's choices come back into table order.
-use Rattle.planner.proofs.PlanLaws.{order-listed, ranges, plan-is}
+use Rattle.planner.proofs.PlanLaws.{order-listed, demand-small, ranges, ordered-small, plan-is}
 use borrow.Author.Needs.{needs}
 use Rattle.planner.proofs.plan_tasks.Statement.{statement}
 use Rattle.planner.proofs.plan_tasks.Tie as tie
@@ -7,8 +7,12 @@ use Rattle.planner.proofs.plan_tasks.Tie as tie
 in-planning-order-requires : tie.Need-in-planning-order-requires
 in-planning-order-requires c κs = order-listed (c .before .before .pre) (c .before .planning-order .ensures .0)
 
+-- demands in either order are within the ranges: a wrong order is refused for its answer
 search-requires : tie.Need-search-requires
-search-requires c κs = ranges (c .before .before .before .pre) (c .before .before .planning-order .ensures .0) (c .in-planning-order .ensures)
+search-requires c κs =
+    let checked = c .before .before .before .pre in
+    let small = ordered-small checked (c .before .before .planning-order .ensures .0) (c .in-planning-order .ensures) in
+    ranges checked _ (λ k. search (small k, demand-small checked k))
 
 in-table-order-requires : tie.Need-in-table-order-requires
 in-table-order-requires c κs = order-listed (c .before .before .before .before .before .pre) (c .before .before .before .before .planning-order .ensures .0)

@@ -1,12 +1,16 @@
 -- The demands go into planning order, the choices of first fit come back into table order.
-use Rattle.planner.proofs.PlanLaws.{order-listed, ranges}
+use Rattle.planner.proofs.PlanLaws.{order-listed, demand-small, ranges, ordered-small}
 use Rattle.quick.proofs.QuickLaws.{quick-is}
 use borrow.Author.Needs.{needs}
 use Rattle.quick.proofs.quick_tasks.Statement.{statement}
 use Rattle.quick.proofs.quick_tasks.Tie as tie
 
+-- demands in either order are within the ranges: a wrong order is refused for its answer
 first-fit-requires : tie.Need-first-fit-requires
-first-fit-requires c κs = ranges (c .before .before .before .pre) (c .before .before .planning-order .ensures .0) (c .in-planning-order .ensures)
+first-fit-requires c κs =
+    let checked = c .before .before .before .pre in
+    let small = ordered-small checked (c .before .before .planning-order .ensures .0) (c .in-planning-order .ensures) in
+    ranges checked _ (λ k. search (small k, demand-small checked k))
 
 in-table-order-requires : tie.Need-in-table-order-requires
 in-table-order-requires c κs = order-listed (c .before .before .before .before .before .pre) (c .before .before .before .before .planning-order .ensures .0)
