@@ -1,21 +1,21 @@
 -- First fit is the walk's first descent, and each of its tasks is on the lowest core that has room for it.
-use Prim.Native.Nat.{ℕ, zero, suc, _+_, _≤_, _<_, zero-le}
+use Prim.Native.Nat.{ℕ, zero, suc, _+_, _≤_, _<_}
 use native.Mathlib.Decide.{decLt}
 use native.Mathlib.Omega.{arith}
 use mathlib.Core.Path.{_≡_, refl, sym, ap, _∙_}
 use mathlib.Core.Bool.{Bool, true, false, true≢false}
 use mathlib.Core.List.{List, [], _∷_, _++_, append-nil, append-assoc}
 use mathlib.Core.Logic.{⊎-elim, by-cases}
-use lib.ListN.{length, getD, take, drop, length-append, replicate}
+use lib.ListN.{length, getD, take, drop, length-append}
 use lib.Seq.{append-snoc, drop-cons, getD-append-seam, take-append-seam, take-at, take-all, take-suc}
 use borrow.Author.Tests.{lt-ltb, le-leb, ne-eqb}
 use Rattle.numbers.proofs.BoolLaws.{and-intro, true-or-false}
 use Rattle.numbers.proofs.FirstLaws.{first-zero, first-is}
-use Rattle.numbers.proofs.LoadLaws.{demandOn-mono, demandOn-same, demandOn-le-sum}
+use Rattle.numbers.proofs.LoadLaws.{demandOn-same, demandOn-le-sum}
 use Rattle.allocation.specs.Placement.{Problem, Feasible, rejected, load, total}
 use Rattle.allocation.specs.Best.{Earlier, core-core, core-none}
 use Rattle.allocation.specs.Rule.{tried, Redundant}
-use Rattle.allocation.specs.Walk.{Step, stepInto, boundAfter, storedAfter, fits, improves, entered, tryAll, visit, choices, trace, stored}
+use Rattle.allocation.specs.Walk.{Step, stepInto, boundAfter, storedAfter, fits, entered, tryAll, visit, choices, trace, stored}
 use Rattle.allocation.specs.FirstFit.{lowestFit, fitFrom, firstFit, Room, OnLowest, FirstDescent}
 use Rattle.allocation.proofs.Demands.{excess-le}
 use Rattle.allocation.proofs.Order.{length-choices, choice-core, choice-none, choice-le, choices-ordered}

@@ -7,7 +7,7 @@ use lib.ListN.{length, getD, take}
 use Rattle.numbers.specs.First.{first}
 use Rattle.numbers.specs.Reorder.{gather, scatter}
 use Rattle.allocation.specs.Placement.{Problem, Feasible, load, rejected}
-use Rattle.allocation.specs.Walk.{WalkAnswer, fits, trace, stored}
+use Rattle.allocation.specs.Walk.{fits, trace, stored}
 use Rattle.allocation.specs.TableOrder.{inPlanningOrder, tableAnswer}
 
 module _ (P : Problem) where

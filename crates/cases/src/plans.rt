@@ -1,24 +1,11 @@
 // Code 2: the exact plan of a table. Blocks: the table, up to 1,024 bytes; the step limit, 4 bytes.
 ghost use mathlib.Core.Path.{_≡_};
-ghost use Rattle.planner.specs.Plan.{verdictOutcome as outcomeOf};
 ghost use Rattle.text.specs.Shown.{shown};
 ghost use Rattle.cases.specs.Lines.{verdictNumber, planLine};
 use crate::lines;
 use planner::Allocation;
 use planner::Verdict;
-use refusal::Outcome;
 use text::Text;
-
-fn verdict_outcome(verdict: Verdict) -> Outcome
-    ensures { λ r. ⌜ r ≡ outcomeOf verdict ⌝ }
-{
-    match verdict {
-        Verdict::All => Outcome::Accepted,
-        Verdict::Short => Outcome::Accepted,
-        Verdict::Spent => Outcome::Accepted,
-        Verdict::Refused(cause) => Outcome::Refused(cause),
-    }
-}
 
 // 0 all, 1 short, 2 spent; 0 if refused.
 fn verdict_number(verdict: Verdict) -> u64
@@ -38,7 +25,7 @@ pub fn plan_line(plan: Allocation) -> Text
 {
     let nothing = text::empty();
     let verdict = plan.verdict;
-    let start = lines::append_outcome(nothing, verdict_outcome(verdict));
+    let start = lines::append_outcome(nothing, planner::verdict_outcome(verdict));
     let word = text::append_field(start, verdict_number(verdict));
     let rejected = text::append_field(word, plan.rejected as u64);
     let steps = text::append_field(rejected, plan.steps as u64);

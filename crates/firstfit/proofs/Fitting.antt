@@ -1,5 +1,5 @@
 -- The loop over the tasks: what it has chosen so far is the beginning of first fit.
-use Prim.Native.Nat.{ℕ, zero, suc, _+_, _-_, _≤_, _<_}
+use Prim.Native.Nat.{ℕ, suc, _+_, _-_, _≤_, _<_}
 use native.Mathlib.Nat.{le-trans}
 use native.Mathlib.Decide.{ℕ-discrete}
 use native.Mathlib.Numerals.{add-one}
@@ -8,7 +8,7 @@ use mathlib.Core.Path.{_≡_, refl, sym, ap, _∙_}
 use mathlib.Core.List.{List, [], _∷_, _++_}
 use mathlib.Core.Logic.{dite}
 use lib.ListN.{length, getD, take, set, replicate, length-set, length-append}
-use lib.Seq.{append-snoc, getD-take, getD-set-same, getD-set-other, length-take-le}
+use lib.Seq.{getD-take, getD-set-same, getD-set-other, length-take-le}
 use borrow.Author.Tests.{ne-eqb}
 use Rattle.numbers.specs.First.{first}
 use Rattle.numbers.specs.Rows.{padded}

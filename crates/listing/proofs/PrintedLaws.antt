@@ -1,7 +1,8 @@
 -- What is printed, by the outcome of the table's tests.
 use Prim.Native.Nat.{ℕ}
-use mathlib.Core.Path.{_≡_, refl, sym, _∙_}
-use mathlib.Core.List.{List}
+use mathlib.Core.Path.{_≡_, refl, _∙_}
+use mathlib.Core.List.{List, []}
+use native.Mathlib.Omega.{arith}
 use Rattle.refusal.specs.Causes.{numberOf, placeOf}
 use Rattle.refusal.specs.declared.Cause.{Cause}
 use Rattle.refusal.specs.declared.Outcome.{Outcome}
@@ -10,6 +11,9 @@ use Rattle.refusal.proofs.ConditionLaws.{decides, accepts, gives-refused}
 use Rattle.taskset.specs.declared.Reading.{Reading}
 use Rattle.stored.specs.Tests.{tableOutcome, readingOf}
 use Rattle.stored.proofs.TableLaws.{table-tested, read-outcome}
+use Rattle.text.specs.Shown.{shown, Appended}
+use Rattle.text.specs.declared.Text.{Text}
+use Rattle.text.proofs.ClipLaws.{append-whole}
 use Rattle.listing.specs.Lines.{refusalLine}
 use Rattle.listing.specs.Printed.{printed, Printed}
 
@@ -18,6 +22,16 @@ pub printed-same : (o : Outcome) {a b : List ℕ} → (o ≡ Accepted → a ≡ 
 unfolding printed
 printed-same Accepted h = h refl
 printed-same (Refused cause) h = refl
+
+-- a refusal alone
+pub none-printed : {o : Outcome} {x : List ℕ} → o ≡ Accepted → x ≡ [] → x ≡ printed o []
+unfolding printed
+none-printed e p = rw e p
+
+pub refusal-printed : {o : Outcome} {cause : Cause} {t r : Text} → o ≡ Refused cause → shown t ≡ []
+    → Appended t (refusalLine (numberOf cause) (placeOf cause)) 50 r → shown r ≡ printed o []
+unfolding printed
+refusal-printed e z p = rw e (append-whole z p (omega arith))
 
 pub in-terms : (s lines : List ℕ) {x : List ℕ} → x ≡ printed (tableOutcome s) lines → Printed s lines x
 unfolding printed
@@ -31,9 +45,9 @@ in-terms s lines e = record {
 -- ---- from the reader's answer
 
 module _ (s : List ℕ) {g : Reading} (e : g ≡ readingOf s) (lines : List ℕ) {x : List ℕ} {o : Outcome} (q : g .outcome ≡ o) where
-  pub printed-refused : {cause : Cause} → o ≡ Refused cause → x ≡ refusalLine (numberOf cause) (placeOf cause) → x ≡ printed (tableOutcome s) lines
+  pub printed-refused : {cause : Cause} → o ≡ Refused cause → x ≡ printed o [] → x ≡ printed (tableOutcome s) lines
   unfolding printed
-  printed-refused h p = p ∙ rw (← read-outcome s e, q, h)
+  printed-refused h p = rw (← read-outcome s e, q, h) (p ∙ rw h)
 
   pub printed-planned : o ≡ Accepted → x ≡ lines → x ≡ printed (tableOutcome s) lines
   unfolding printed

@@ -3,8 +3,11 @@ ghost use mathlib.Core.Path.{_≡_};
 ghost use Prim.Native.Nat.{_≤_};
 ghost use Rattle.refusal.specs.Causes.{numberOf, placeOf};
 ghost use Rattle.text.specs.Shown.{shown, Appended};
+ghost use mathlib.Core.List.{[]};
+ghost use Rattle.listing.specs.Printed.{printed};
 ghost use Rattle.listing.specs.Lines.{refusalLine, sizesLine, taskLine, taskLines, tableLines};
 use refusal::Cause;
+use refusal::Outcome;
 use taskset::Fields;
 use taskset::TaskSet;
 use text::Text;
@@ -68,9 +71,12 @@ pub fn append_table(text: Text, t: TaskSet, cores: [u8; 16]) -> Text
 }
 
 // The output for a refused table: the line of its refusal alone.
-pub fn refusal_report(cause: Cause) -> Text
-    ensures { λ r. ⌜ shown r ≡ refusalLine (numberOf cause) (placeOf cause) ⌝ }
+pub fn refusal_report(outcome: Outcome) -> Text
+    ensures { λ r. ⌜ shown r ≡ printed outcome [] ⌝ }
 {
     let nothing = text::empty();
-    append_refusal(nothing, cause)
+    match outcome {
+        Outcome::Accepted => nothing,
+        Outcome::Refused(cause) => append_refusal(nothing, cause),
+    }
 }

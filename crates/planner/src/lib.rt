@@ -42,6 +42,18 @@ fn verdict_of(spent: bool, rejected: u32) -> Verdict
     Verdict::Short
 }
 
+// What a verdict says of the call.
+pub fn verdict_outcome(verdict: Verdict) -> Outcome
+    ensures { λ r. ⌜ r ≡ verdictOutcome verdict ⌝ }
+{
+    match verdict {
+        Verdict::All => Outcome::Accepted,
+        Verdict::Short => Outcome::Accepted,
+        Verdict::Spent => Outcome::Accepted,
+        Verdict::Refused(cause) => Outcome::Refused(cause),
+    }
+}
+
 // A refused plan: zeros beside the cause.
 fn refused(cause: Cause) -> Allocation
     ensures { λ r. ⌜ r ≡ refusedPlan cause ⌝ }

@@ -19,15 +19,13 @@ use Rattle.stored.specs.Form.{fieldsOf}
 use Rattle.stored.specs.Tests.{tableOutcome}
 use Rattle.stored.specs.Limits.{Valid, conditions}
 use Rattle.stored.proofs.TableLaws.{table-tested}
-use Rattle.allocation.specs.Placement.{Problem, rejected}
+use Rattle.allocation.specs.Placement.{rejected}
 use Rattle.allocation.specs.TableOrder.{tableAnswer}
 use Rattle.allocation.specs.FirstFit.{QuickGuarantee}
 use Rattle.allocation.proofs.Quick.{quick-guaranteed}
 use Rattle.planner.specs.Problem.{tableProblem, orderOf}
 use Rattle.planner.specs.Plan.{verdictOf, allocationOf, planFor, refusedPlan, planBy, planOf}
-use Rattle.planner.specs.Promise.{Promise}
 use Rattle.planner.proofs.PromiseLaws.{demands-long, stated-order, order-permutation, promised}
-use Rattle.planner.specs.declared.Allocation.{Allocation}
 use Rattle.planner.specs.declared.Verdict.the-variants.{All, Spent}
 use Rattle.quick.specs.Quick.{quickPlacement, quickFor, refusedQuick, quickBy, quickOf}
 use Rattle.quick.specs.Promise.{quickChoices, Safe, Lowest, Exact, NoLess, Descent, RefusedQuick}

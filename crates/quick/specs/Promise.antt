@@ -11,7 +11,7 @@ use Rattle.refusal.specs.Causes.{numberIn}
 use Rattle.taskset.specs.Demands.{hyperperiodOf}
 use Rattle.taskset.specs.declared.Fields.{Fields}
 use Rattle.planning.specs.Order.{InOrder}
-use Rattle.stored.specs.Form.{fieldsOf, taskCount}
+use Rattle.stored.specs.Form.{taskCount}
 use Rattle.allocation.specs.Placement.{Feasible, load, rejected}
 use Rattle.allocation.specs.FirstFit.{OnLowest}
 use Rattle.allocation.specs.TableOrder.{inPlanningOrder}

@@ -36,18 +36,12 @@ pub fn report(table: &[u8]) -> Text
     let reading = stored::read_table(table);
     let outcome = reading.outcome;
     let Outcome::Accepted = outcome else {
-        if let Outcome::Refused(cause) = outcome {
-            return listing::refusal_report(cause);
-        }
-        return text::empty();
+        return listing::refusal_report(outcome);
     };
     let plan = quick::quick_tasks(reading.tasks);
     let answer = plan.outcome;
     let Outcome::Accepted = answer else {
-        if let Outcome::Refused(cause) = answer {
-            return listing::refusal_report(cause);
-        }
-        return text::empty();
+        return listing::refusal_report(answer);
     };
     plan_report(reading.tasks, plan)
 }

@@ -54,18 +54,12 @@ pub fn report(table: &[u8]) -> Text
     let reading = stored::read_table(table);
     let outcome = reading.outcome;
     let Outcome::Accepted = outcome else {
-        if let Outcome::Refused(cause) = outcome {
-            return listing::refusal_report(cause);
-        }
-        return text::empty();
+        return listing::refusal_report(outcome);
     };
     let plan = planner::plan_tasks(reading.tasks, LIMIT);
     let verdict = plan.verdict;
     let (Verdict::All | Verdict::Short | Verdict::Spent) = verdict else {
-        if let Verdict::Refused(cause) = verdict {
-            return listing::refusal_report(cause);
-        }
-        return text::empty();
+        return listing::refusal_report(planner::verdict_outcome(verdict));
     };
     plan_report(reading.tasks, plan)
 }

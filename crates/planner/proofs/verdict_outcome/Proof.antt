@@ -1,8 +1,8 @@
 -- An outcome for each verdict.
 use Rattle.planner.specs.Plan.{verdictOutcome}
 use borrow.Author.Needs.{needs}
-use Rattle.cases.proofs.plans.verdict_outcome.Statement.{statement}
-use Rattle.cases.proofs.plans.verdict_outcome.Tie as tie
+use Rattle.planner.proofs.verdict_outcome.Statement.{statement}
+use Rattle.planner.proofs.verdict_outcome.Tie as tie
 
 pub verdict-outcome-spec : {M : Type 1} → statement M
 unfolding verdictOutcome
