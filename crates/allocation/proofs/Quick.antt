@@ -9,8 +9,8 @@ use lib.ListN.{length}
 use lib.Seq.{take-all}
 use borrow.Author.Tests.{le-ltb}
 use Rattle.numbers.specs.Sorting.{Permutation}
-use Rattle.numbers.specs.Reorder.{scatter}
-use Rattle.numbers.proofs.ReorderLaws.{gather-scatter}
+use Rattle.numbers.specs.Reorder.{gather, scatter}
+use Rattle.numbers.proofs.ReorderLaws.{gather-long, gather-scatter, scatter-gather}
 use Rattle.allocation.specs.Placement.{Problem, rejected}
 use Rattle.allocation.specs.Walk.{trace, stored, storedAfter, answer}
 use Rattle.allocation.specs.TableOrder.{inPlanningOrder, tableAnswer}
@@ -18,7 +18,7 @@ use Rattle.allocation.specs.FirstFit.{firstFit, tableFit, FirstDescent, 
 use Rattle.allocation.proofs.Optimal.{none}
 use Rattle.allocation.proofs.Reorder.{inPlanningOrder-long, feasible-long, feasible-scatter, rejected-scatter}
 use Rattle.allocation.proofs.Guarantee.{tried-redundant}
-use Rattle.allocation.proofs.FirstFit.{first-feasible, first-lowest, first-descent}
+use Rattle.allocation.proofs.FirstFit.{first-feasible, first-lowest, first-only, first-descent}
 
 module _ (T : Problem) (order : List ℕ) (perm : Permutation (length (T .demands)) order) where
   abbrev P : Problem
@@ -66,6 +66,9 @@ module _ (T : Problem) (order : List ℕ) (perm : Permutation (length (T .demand
   quick-guaranteed = record {
     feasible = feasible-scatter T order perm (firstFit P) (first-feasible P);
     lowest = λ k h. rw (gather-scatter n order perm (firstFit P) (feasible-long T order perm (firstFit P) (first-feasible P))) (first-lowest P k (omega (arith, long)));
+    only = λ q e a.
+        sym (scatter-gather n order perm q e)
+        ∙ ap (scatter order) (first-only P (gather order q) (gather-long n order perm q ∙ sym long) (λ k h. a k (omega (arith, long))));
     exact = λ z limit h. exact-answer z limit h;
     descent = ap (scatter order) (ap (stored P) (sym long) ∙ descends .stores);
   }

@@ -54,6 +54,9 @@ pub record QuickGuarantee (T : Problem) (order : List ℕ) (p : List ℕ) : Type
   pub feasible : Feasible T p
   -- In planning order each task is on the lowest core that has room for it.
   pub lowest : (k : ℕ) → k < length (T .demands) → OnLowest (inPlanningOrder T order) (gather order p) k
+  -- No other placement has each task there.
+  pub only : (q : List ℕ) → length q ≡ length (T .demands)
+      → ((k : ℕ) → k < length (T .demands) → OnLowest (inPlanningOrder T order) (gather order q) k) → q ≡ p
   -- If nothing is rejected, the walk gives the same, in a step for each task, whatever the limit above that.
   pub exact : rejected T p ≡ 0 → (limit : ℕ) → length (T .demands) ≤ limit
       → tableAnswer T order limit ≡ record { placement = p; rejected = 0; steps = length (T .demands); spent = false }

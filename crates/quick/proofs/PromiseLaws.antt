@@ -58,6 +58,7 @@ module _ (f : Fields) (w : Within f) where
   lowest : Lowest f (quickFor f)
   lowest = record {
     each = λ k h. rw choices-are (keeps .lowest k (rw (demands-long f w) h));
+    only = λ other e a. keeps .only other (e ∙ sym (demands-long f w)) (λ k h. a k (rw (demands-long f w) at h)) ∙ sym choices-are;
     ordered = stated-order f w;
   }
 

@@ -3,7 +3,7 @@ use Prim.Native.Nat.{ℕ, _≤_, _<_}
 use mathlib.Core.Path.{_≡_}
 use mathlib.Core.List.{List}
 use mathlib.Core.Logic.{_≢_}
-use lib.ListN.{take, replicate}
+use lib.ListN.{length, take, replicate}
 use Rattle.numbers.specs.Reorder.{gather}
 use Rattle.numbers.specs.Rows.{entry}
 use Rattle.numbers.specs.Sorting.{Permutation}
@@ -36,6 +36,9 @@ pub record Safe (f : Fields) (r : QuickPlan) : Type 0 where
 pub record Lowest (f : Fields) (r : QuickPlan) : Type 0 where
   -- In planning order each task is on the lowest core that has room for it beside those before it, and left out exactly if none has.
   pub each : (k : ℕ) → k < f .n → OnLowest (inPlanningOrder (tableProblem f) (orderOf f)) (gather (orderOf f) (quickChoices f r)) k
+  -- No other placement of the n tasks is so.
+  pub only : (other : List ℕ) → length other ≡ f .n
+      → ((k : ℕ) → k < f .n → OnLowest (inPlanningOrder (tableProblem f) (orderOf f)) (gather (orderOf f) other) k) → other ≡ quickChoices f r
   -- That order takes the tasks by falling demand, equal demands by shorter period, then by lower number; each task once.
   pub ordered : InOrder (tableProblem f .demands) (f .periods) (orderOf f) × Permutation (f .n) (orderOf f)
 
