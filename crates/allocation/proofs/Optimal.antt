@@ -8,12 +8,12 @@ use lib.ListN.{length, getD, replicate, length-replicate}
 use lib.Seq.{take-all}
 use Rattle.allocation.specs.Placement.{Problem, Feasible, Full, rejected, total}
 use Rattle.allocation.specs.Best.{IsBest}
-use Rattle.numbers.proofs.LoadLaws.{demandOn-le-sum, none-loads}
+use Rattle.numbers.proofs.LoadLaws.{demandOn-le-sum, none-loads, none-rejects}
 use Rattle.numbers.proofs.ZeroLaws.{zero-at}
 use Rattle.allocation.proofs.Demands.{full-rejects, rejects-full}
 use Rattle.allocation.specs.Walk.{trace, visit, stepInto, stored, boundAfter, storedAfter}
-use Rattle.allocation.proofs.Steps.{Leaves, leaves-stored}
-use Rattle.allocation.proofs.Sound.{Partial, into-sound}
+use Rattle.allocation.proofs.Steps.{Leaves, leaves-stored, falling-stored}
+use Rattle.allocation.proofs.Sound.{Partial, visit-falling, into-sound}
 use Rattle.allocation.specs.Rule.{Redundant}
 use Rattle.allocation.proofs.Complete.{Kept, deep}
 
@@ -48,6 +48,13 @@ module _ (P : Problem) where
   pub stored-feasible : (limit : ℕ) → Feasible P (stored P limit)
   unfolding stored trace
   stored-feasible limit = leaves-stored (Feasible P) limit none (trace P) none-feasible (sound (length (P .demands)) refl)
+
+  -- a larger limit does not reject more
+  pub stored-falls : (i j : ℕ) → j ≤ i → rejected P (stored P i) ≤ rejected P (stored P j)
+  unfolding stored trace
+  stored-falls i j h =
+      falling-stored P i j (total P + 1) none (trace P) h
+      (λ p l. omega (arith, none-rejects (P .demands))) (visit-falling P (length (P .demands)) [] (total P + 1))
 
   module _ (redundant : Redundant P) where
     -- a step to no choices would change nothing

@@ -15,7 +15,7 @@ use Rattle.allocation.specs.Placement.{Problem, rejected}
 use Rattle.allocation.specs.Walk.{trace, stored, storedAfter, answer}
 use Rattle.allocation.specs.TableOrder.{inPlanningOrder, tableAnswer}
 use Rattle.allocation.specs.FirstFit.{firstFit, tableFit, FirstDescent, QuickGuarantee}
-use Rattle.allocation.proofs.Optimal.{none}
+use Rattle.allocation.proofs.Optimal.{none, stored-falls}
 use Rattle.allocation.proofs.Reorder.{inPlanningOrder-long, feasible-long, feasible-scatter, rejected-scatter}
 use Rattle.allocation.proofs.Guarantee.{tried-redundant}
 use Rattle.allocation.proofs.FirstFit.{first-feasible, first-lowest, first-only, first-descent}
@@ -71,4 +71,5 @@ module _ (T : Problem) (order : List ℕ) (perm : Permutation (length (T .demand
         ∙ ap (scatter order) (first-only P (gather order q) (gather-long n order perm q ∙ sym long) (λ k h. a k (omega (arith, long))));
     exact = λ z limit h. exact-answer z limit h;
     descent = ap (scatter order) (ap (stored P) (sym long) ∙ descends .stores);
+    later = λ limit h. rw (rejects, ← descends .stores) (stored-falls P limit (length (P .demands)) (omega (arith, long)));
   }

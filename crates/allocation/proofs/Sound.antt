@@ -17,7 +17,7 @@ use Rattle.numbers.proofs.LoadLaws.{demandOn-other}
 use Rattle.allocation.specs.Rule.{tried}
 use Rattle.allocation.specs.Walk.{Step, stepInto, boundAfter, fits, improves, entered, tryAll, visit, choices}
 use Rattle.allocation.proofs.Order.{length-choices, choice-le}
-use Rattle.allocation.proofs.Steps.{Leaves, leaves-append}
+use Rattle.allocation.proofs.Steps.{Leaves, leaves-append, Falling, falling-append}
 
 -- the beginning of a placement that may still become feasible
 pub record Partial (P : Problem) (p : List ℕ) : Type 0 where
@@ -91,6 +91,23 @@ module _ (P : Problem) where
             → Leaves Q (tryAll P k below p (c ∷ cs) b)
         go false e rest = rw (try-skip p c cs b e) (rest b)
         go true e rest = rw (try-enter p c cs b e) (leaves-append Q (into k below p c b) _ (h 0 b (omega arith) e) (rest _))
+
+    -- the steps of a choice, and of those after it, improve on the bound
+    try-falling : (p : List ℕ) → ((c b : ℕ) → entered P p c b ≡ true → Falling P b (into k below p c b))
+        → (cs : List ℕ) (b : ℕ) → Falling P b (tryAll P k below p cs b)
+    unfolding tryAll
+    try-falling p h [] b = tt
+    try-falling p h (c ∷ cs) b = go (entered P p c b) refl (try-falling p h cs)
+      where
+        go : (s : Bool) → entered P p c b ≡ s → ((b′ : ℕ) → Falling P b′ (tryAll P k below p cs b′)) → Falling P b (tryAll P k below p (c ∷ cs) b)
+        go false e rest = rw (try-skip p c cs b e) (rest b)
+        go true e rest = rw (try-enter p c cs b e) (falling-append P b (into k below p c b) _ (h c b e) (rest _))
+
+  pub visit-falling : (k : ℕ) (p : List ℕ) (b : ℕ) → Falling P b (visit P k p b)
+  unfolding visit stepInto
+  visit-falling zero p b = tt
+  visit-falling (suc zero) p b = try-falling zero _ p (λ c b′ e. (entered-rejects p c b′ e, tt)) (choices (P .cores)) b
+  visit-falling (suc (suc k)) p b = try-falling (suc k) _ p (λ c b′ e. visit-falling (suc k) (p ++ (c ∷ [])) b′) (choices (P .cores)) b
 
   -- the step to the choices p, and those that follow it
   pub into-sound : (k : ℕ) (p : List ℕ) (b : ℕ) → length p + k ≡ length (P .demands) → Partial P p

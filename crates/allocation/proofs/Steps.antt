@@ -1,5 +1,7 @@
 -- Facts about lists of steps, whichever walk they come from.
-use Prim.Native.Nat.{ℕ, zero, suc}
+use Prim.Native.Nat.{ℕ, zero, suc, _≤_, _<_}
+use native.Mathlib.Nat.{le-refl}
+use native.Mathlib.Omega.{arith}
 use mathlib.Core.Path.{_≡_, refl, ap}
 use mathlib.Core.List.{List, [], _∷_, _++_}
 use mathlib.Core.Logic.{_⊎_, inl, inr, ⊎-elim, ⊎-map}
@@ -51,3 +53,31 @@ unfolding storedAfter
 storedAfter-append q [] t = refl
 storedAfter-append q (inner ∷ s) t = storedAfter-append q s t
 storedAfter-append q (leaf p ∷ s) t = storedAfter-append p s t
+
+-- every placement that the steps complete rejects less than the bound before it
+abbrev pub Falling : Problem → ℕ → List Step → Type 0
+Falling P b [] = Unit {0}
+Falling P b (inner ∷ t) = Falling P b t
+Falling P b (leaf p ∷ t) = (rejected P p < b) × Falling P (rejected P p) t
+
+module _ (P : Problem) where
+  pub falling-append : (b : ℕ) (s t : List Step) → Falling P b s → Falling P (boundAfter P b s) t → Falling P b (s ++ t)
+  unfolding boundAfter
+  falling-append b [] t a f = f
+  falling-append b (inner ∷ s) t a f = falling-append b s t a f
+  falling-append b (leaf p ∷ s) t a f = (a .0, falling-append (rejected P p) s t (a .1) f)
+
+  -- the more of them are made, the less is rejected
+  pub falling-stored : (i j b : ℕ) (q : List ℕ) (t : List Step) → j ≤ i → ((p : List ℕ) → rejected P p < b → rejected P p ≤ rejected P q) → Falling P b t
+      → rejected P (storedAfter q (take i t)) ≤ rejected P (storedAfter q (take j t))
+  unfolding storedAfter
+  falling-stored zero zero b q t h less f = le-refl _
+  falling-stored zero (suc j) b q t h less f = absurd (omega arith)
+  falling-stored (suc i) zero b q [] h less f = le-refl _
+  falling-stored (suc i) zero b q (inner ∷ t) h less f = falling-stored i zero b q t (omega arith) less f
+  falling-stored (suc i) zero b q (leaf p ∷ t) h less f =
+      omega (arith, less p (f .0), falling-stored i zero (rejected P p) p t (omega arith) (λ r l. omega arith) (f .1))
+  falling-stored (suc i) (suc j) b q [] h less f = le-refl _
+  falling-stored (suc i) (suc j) b q (inner ∷ t) h less f = falling-stored i j b q t (omega arith) less f
+  falling-stored (suc i) (suc j) b q (leaf p ∷ t) h less f =
+      falling-stored i j (rejected P p) p t (omega arith) (λ r l. omega arith) (f .1)

@@ -60,5 +60,6 @@ pub record QuickGuarantee (T : Problem) (order : List ℕ) (p : List ℕ) : Type
   -- If nothing is rejected, the walk gives the same, in a step for each task, whatever the limit above that.
   pub exact : rejected T p ≡ 0 → (limit : ℕ) → length (T .demands) ≤ limit
       → tableAnswer T order limit ≡ record { placement = p; rejected = 0; steps = length (T .demands); spent = false }
-  -- After a step for each task the walk has stored it.
+  -- After a step for each task the walk has stored it, and what it stores later rejects no more.
   pub descent : tableAnswer T order (length (T .demands)) .placement ≡ p
+  pub later : (limit : ℕ) → length (T .demands) ≤ limit → tableAnswer T order limit .rejected ≤ rejected T p

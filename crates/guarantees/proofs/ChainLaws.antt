@@ -76,4 +76,5 @@ quick-demand = record {
   lowest = λ table. quick-lowest table refl;
   exact = λ table. quick-answered table refl .exact;
   no-less = λ table. quick-answered table refl .no-less;
+  descent = λ table. quick-answered table refl .descent;
 }

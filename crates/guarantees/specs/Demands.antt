@@ -19,7 +19,7 @@ use Rattle.stored.specs.Limits.{Valid, conditions}
 use Rattle.planner.specs.Plan.{planOf, verdictOutcome}
 use Rattle.planner.specs.Promise.{Promise, Plans}
 use Rattle.quick.specs.Quick.{quickOf}
-use Rattle.quick.specs.Promise.{quickChoices, Safe, Lowest, Exact, NoLess, RefusedQuick}
+use Rattle.quick.specs.Promise.{quickChoices, Safe, Lowest, Exact, NoLess, Descent, RefusedQuick}
 use Rattle.firmware.specs.Call.{codeFor, bufferAfter}
 use Rattle.firmware.specs.Service.{Answers}
 use Rattle.edf.specs.Guarantee.{TickGuarantee}
@@ -75,6 +75,8 @@ pub record QuickDemand : Type 0 where
   pub exact : (table : List ℕ) → Exact table (quickOf table)
   -- Its left-out weight is never below the exact planner's, unless that one was spent.
   pub no-less : (table : List ℕ) → NoLess table (quickOf table)
+  -- More than was asked: with a limit of n the exact planner returns it, and with a larger one nothing that leaves out more, spent or not.
+  pub descent : (table : List ℕ) → Descent table (quickOf table)
 
 -- A placement of a table: one entry for each task, a core of the table or 0.
 pub record ValidPlacement (table placement : List ℕ) : Type 0 where

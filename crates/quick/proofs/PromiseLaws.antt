@@ -83,6 +83,10 @@ module _ (f : Fields) (w : Within f) where
   first-rejected : planFor f (f .n) .rejected ≡ quickFor f .rejected
   first-rejected = promised f w (f .n) .rejects ∙ ap (λ p. rejected (tableProblem f) (take (f .n) p)) first-plan ∙ sym (safe .rejects)
 
+  later-plans : (limit : ℕ) → f .n ≤ limit → planFor f limit .rejected ≤ quickFor f .rejected
+  unfolding quickFor planFor allocationOf
+  later-plans limit h = keeps .later limit (rw (demands-long f w) h)
+
 -- ---- a table
 
 pub quick-outcome : (o : Outcome) (f : Fields) → quickBy o f .outcome ≡ o
@@ -102,7 +106,7 @@ unfolding quickBy refusedQuick planOf planBy refusedPlan fieldsOf
 answered s (outcome.Refused c) e = record {
   exact = λ z. absurd (omega (arith, number-range c, z));
   no-less = λ limit h. rw e zero-le;
-  descent = rw e (refl, refl);
+  descent = record { placement = rw e; rejected = rw e; later = λ limit h. rw e zero-le };
   refused = λ n. record { placement = refl; rejected = refl };
 }
 answered s outcome.Accepted e =
@@ -110,7 +114,11 @@ answered s outcome.Accepted e =
     record {
       exact = λ z q limit h. rw e (exact-plan (fieldsOf s) w q limit h);
       no-less = λ limit h. rw e (plan-no-less (fieldsOf s) w limit (rw e at h));
-      descent = rw e (first-plan (fieldsOf s) w, first-rejected (fieldsOf s) w);
+      descent = record {
+        placement = rw e (first-plan (fieldsOf s) w);
+        rejected = rw e (first-rejected (fieldsOf s) w);
+        later = λ limit h. rw e (later-plans (fieldsOf s) w limit h);
+      };
       refused = λ n. absurd (n (ap numberIn (quick-outcome outcome.Accepted (fieldsOf s))));
     }
 

@@ -51,9 +51,13 @@ Exact table r = numberIn (r .outcome) ≡ 0 → r .rejected ≡ 0 → (limit : �
 abbrev pub NoLess : List ℕ → QuickPlan → Type 0
 NoLess table r = (limit : ℕ) → planOf table limit .verdict ≢ Spent → planOf table limit .rejected ≤ r .rejected
 
--- It is the walk's first descent: with a limit of n the exact planner returns this placement, spent or not.
-abbrev pub Descent : List ℕ → QuickPlan → Type 0
-Descent table r = (planOf table (taskCount table) .placement ≡ r .placement) × (planOf table (taskCount table) .rejected ≡ r .rejected)
+-- It is the walk's first descent.
+pub record Descent (table : List ℕ) (r : QuickPlan) : Type 0 where
+  -- With a limit of n the exact planner returns this placement, spent or not,
+  pub placement : planOf table (taskCount table) .placement ≡ r .placement
+  pub rejected : planOf table (taskCount table) .rejected ≡ r .rejected
+  -- and with a larger one none that leaves out more.
+  pub later : (limit : ℕ) → taskCount table ≤ limit → planOf table limit .rejected ≤ r .rejected
 
 -- A refused quick plan is all zeros beside its cause.
 pub record RefusedQuick (r : QuickPlan) : Type 0 where
