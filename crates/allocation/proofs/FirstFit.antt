@@ -1,27 +1,25 @@
--- First fit is the walk's first descent, and each of its tasks is on the lowest core that has room for it.
+-- First fit is feasible; each of its tasks is on the lowest core that has room for it, and no other placement is so.
 use Prim.Native.Nat.{ℕ, zero, suc, _+_, _≤_, _<_}
 use native.Mathlib.Decide.{decLt}
 use native.Mathlib.Omega.{arith}
 use mathlib.Core.Path.{_≡_, refl, sym, ap, _∙_}
 use mathlib.Core.Bool.{Bool, true, false, true≢false}
-use mathlib.Core.List.{List, [], _∷_, _++_, append-nil, append-assoc}
+use mathlib.Core.List.{List, [], _∷_, _++_, append-nil}
 use mathlib.Core.Logic.{⊎-elim, by-cases}
-use lib.ListN.{length, getD, take, drop, length-append}
-use lib.Seq.{append-snoc, drop-cons, getD-append-seam, take-append-seam, take-at, take-all, take-suc}
-use borrow.Author.Tests.{lt-ltb, le-leb, ne-eqb}
+use lib.ListN.{length, getD, take, length-append}
+use lib.Seq.{append-snoc, getD-append-seam, take-append-seam, take-all, take-suc}
+use borrow.Author.Tests.{le-leb, ne-eqb}
 use Rattle.numbers.proofs.BoolLaws.{and-intro, true-or-false}
 use Rattle.numbers.proofs.FirstLaws.{first-zero, first-is}
-use Rattle.numbers.proofs.LoadLaws.{demandOn-same, demandOn-le-sum}
-use Rattle.allocation.specs.Placement.{Problem, Feasible, rejected, load, total}
+use Rattle.numbers.proofs.LoadLaws.{demandOn-same}
+use Rattle.allocation.specs.Placement.{Problem, Feasible, load}
 use Rattle.allocation.specs.Best.{Earlier, core-core, core-none}
-use Rattle.allocation.specs.Rule.{tried, Redundant}
-use Rattle.allocation.specs.Walk.{Step, stepInto, boundAfter, storedAfter, fits, entered, tryAll, visit, choices, trace, stored}
-use Rattle.allocation.specs.FirstFit.{lowestFit, fitFrom, firstFit, Room, OnLowest, FirstDescent}
-use Rattle.allocation.proofs.Demands.{excess-le}
-use Rattle.allocation.proofs.Order.{length-choices, choice-core, choice-none, choice-le, choices-ordered}
-use Rattle.allocation.proofs.Sound.{Partial, partial-whole, core-fits, partial-snoc, into, entered-rejects, try-skip, try-enter}
-use Rattle.allocation.proofs.Complete.{choice-within, choice-fits, snoc-mono}
-use Rattle.allocation.proofs.Optimal.{none, start}
+use Rattle.allocation.specs.Walk.{fits, choices}
+use Rattle.allocation.specs.FirstFit.{lowestFit, fitFrom, firstFit, Room, OnLowest}
+use Rattle.allocation.proofs.Order.{choice-core, choice-none, choice-le}
+use Rattle.allocation.proofs.Sound.{Partial, partial-whole, core-fits, partial-snoc}
+use Rattle.allocation.proofs.Complete.{Begins}
+use Rattle.allocation.proofs.Optimal.{start}
 
 -- an earlier choice is a core, and lower than a core that it is earlier than
 earlier-core : {d c : ℕ} → Earlier d c → 1 ≤ d
@@ -42,14 +40,14 @@ module _ (P : Problem) where
   -- ---- the choice for the next task
 
   -- of the choices in their order c is the first that fits
-  record Next (p : List ℕ) (c : ℕ) : Type 0 where
-    at : ℕ
-    within : at ≤ m
-    is : getD (choices m) at 0 ≡ c
-    fits-there : fits P p c ≡ true
-    passed : (d : ℕ) → d ≤ m → Earlier d c → fits P p d ≡ false
+  pub record Next (p : List ℕ) (c : ℕ) : Type 0 where
+    pub at : ℕ
+    pub within : at ≤ m
+    pub is : getD (choices m) at 0 ≡ c
+    pub fits-there : fits P p c ≡ true
+    pub passed : (d : ℕ) → d ≤ m → Earlier d c → fits P p d ≡ false
 
-  next : (p : List ℕ) → Next p (lowestFit P p)
+  pub next : (p : List ℕ) → Next p (lowestFit P p)
   unfolding lowestFit
   next p = go (lowestFit P p) refl
     where
@@ -84,25 +82,24 @@ module _ (P : Problem) where
 
   -- ---- the placement
 
-  pub fit-extends : (k : ℕ) (p : List ℕ) → (r : List ℕ) × (fitFrom P k p ≡ p ++ r) × (length r ≡ k)
-  unfolding fitFrom
-  fit-extends zero p = ([], sym (append-nil p), refl)
-  fit-extends (suc k) p =
-      let x = fit-extends k (p ++ (lowestFit P p ∷ [])) in
-      (lowestFit P p ∷ x .0, x .1 ∙ append-snoc p (lowestFit P p) (x .0), ap suc (x .2))
-
-  -- the beginning of a placement goes on to a feasible one
+  -- the choices p, and one more
   module _ (p : List ℕ) where
-    abbrev one : List ℕ
+    abbrev pub one : List ℕ
     one = p ++ (lowestFit P p ∷ [])
 
-    one-long : (k : ℕ) → length p + suc k ≡ n → length one + k ≡ n
+    pub one-long : (k : ℕ) → length p + suc k ≡ n → length one + k ≡ n
     one-long k e = omega (arith, length-append p (lowestFit P p ∷ []))
 
-    one-partial : Partial P p → Partial P one
+    pub one-partial : Partial P p → Partial P one
     one-partial h = partial-snoc P p (lowestFit P p) (next p .fits-there) (next-le p) h
 
-  fit-feasible : (k : ℕ) (p : List ℕ) → length p + k ≡ n → Partial P p → Feasible P (fitFrom P k p)
+  pub fit-begins : (k : ℕ) (p : List ℕ) → Begins p (fitFrom P k p)
+  unfolding fitFrom
+  fit-begins zero p = ([], sym (append-nil p))
+  fit-begins (suc k) p = let x = fit-begins k (one p) in (lowestFit P p ∷ x .0, x .1 ∙ append-snoc p (lowestFit P p) (x .0))
+
+  -- the beginning of a placement goes on to a feasible one
+  pub fit-feasible : (k : ℕ) (p : List ℕ) → length p + k ≡ n → Partial P p → Feasible P (fitFrom P k p)
   unfolding fitFrom
   fit-feasible zero p e h = partial-whole P h (omega arith)
   fit-feasible (suc k) p e h = fit-feasible k (one p) (one-long p k e) (one-partial p h)
@@ -154,7 +151,7 @@ module _ (P : Problem) where
       by-cases (decLt (length p) i)
       (λ g. fit-lowest k (one p) (one-long p k e) i (omega (arith, length-append p (lowestFit P p ∷ []))) l)
       (λ g. let q : i ≡ length p = omega arith in
-      rw (q, fit-extends k (one p) .1, append-snoc) (on-lowest p (lowestFit P p) (fit-extends k (one p) .0) (omega arith) (next p) (next-le p)))
+      rw (q, fit-begins k (one p) .1, append-snoc) (on-lowest p (lowestFit P p) (fit-begins k (one p) .0) (omega arith) (next p) (next-le p)))
 
   pub first-lowest : (k : ℕ) → k < n → OnLowest P (firstFit P) k
   unfolding firstFit
@@ -195,144 +192,3 @@ module _ (P : Problem) where
 
   pub first-only : (p : List ℕ) → length p ≡ n → ((k : ℕ) → k < n → OnLowest P p k) → p ≡ firstFit P
   first-only p e a = lowest-only p (firstFit P) e (first-feasible .whole) a first-lowest
-
-  -- ---- the walk's first descent
-
-  -- its steps through the next k tasks
-  unfoldable descent : ℕ → List ℕ → List Step
-  descent zero p = []
-  descent (suc k) p = stepInto k (one p) ∷ descent k (one p)
-
-  descent-long : (k : ℕ) (p : List ℕ) → length (descent k p) ≡ k
-  unfolding descent
-  descent-long zero p = refl
-  descent-long (suc k) p = ap suc (descent-long k (one p))
-
-  -- with the step before it, it completes what first fit makes of p
-  descent-bound : (k : ℕ) (p : List ℕ) (b : ℕ) → boundAfter P b (stepInto k p ∷ descent k p) ≡ rejected P (fitFrom P k p)
-  unfolding descent fitFrom stepInto boundAfter
-  descent-bound zero p b = refl
-  descent-bound (suc k) p b = descent-bound k (one p) b
-
-  descent-stored : (k : ℕ) (p q : List ℕ) → storedAfter q (stepInto k p ∷ descent k p) ≡ fitFrom P k p
-  unfolding descent fitFrom stepInto storedAfter
-  descent-stored zero p q = refl
-  descent-stored (suc k) p q = descent-stored k (one p) q
-
-  -- the root is no step
-  descent-root : (k : ℕ) → n ≡ k → storedAfter (none P) (descent k []) ≡ fitFrom P k []
-  unfolding descent fitFrom storedAfter
-  descent-root zero e = rw e
-  descent-root (suc k) e = descent-stored k (one []) (none P)
-
-  module _ (k : ℕ) (below : List ℕ → ℕ → List Step) (p : List ℕ) where
-    -- choices that are not entered are passed over
-    try-pass : (b : ℕ) (cs : List ℕ) (j : ℕ) → ((i : ℕ) → i < j → entered P p (getD cs i 0) b ≡ false)
-        → tryAll P k below p cs b ≡ tryAll P k below p (drop j cs) b
-    try-pass b cs zero h = refl
-    try-pass b [] (suc j) h = refl
-    try-pass b (c ∷ cs) (suc j) h =
-        try-skip P k below p c cs b (h 0 (omega arith)) ∙ try-pass b cs j (λ i l. h (suc i) (omega arith))
-
-    -- a bound of 0 is not beaten
-    try-zero : (cs : List ℕ) → tryAll P k below p cs 0 ≡ []
-    unfolding tryAll
-    try-zero [] = refl
-    try-zero (c ∷ cs) =
-        ⊎-elim (λ e. absurd (omega (arith, entered-rejects P p c 0 e)))
-        (λ e. try-skip P k below p c cs 0 e ∙ try-zero cs) (true-or-false (entered P p c 0))
-
-  unfit : (p : List ℕ) (c b : ℕ) → fits P p c ≡ false → entered P p c b ≡ false
-  unfolding entered
-  unfit p c b e = rw e
-
-  -- steps that begin with the descent from p, and are no more if it rejects nothing
-  record Descends (k : ℕ) (p : List ℕ) (t : List Step) : Type 0 where
-    later : List Step
-    is : t ≡ descent k p ++ later
-    ends : rejected P (fitFrom P k p) ≡ 0 → later ≡ []
-
-  module _ (redundant : Redundant P) where
-    -- one task's choices, where first fit would improve on the bound
-    module _ (k : ℕ) (p : List ℕ) (b : ℕ) (e : length p + suc k ≡ n) (h : Partial P p) (i : rejected P (fitFrom P k (one p)) < b) where
-      abbrev c : ℕ
-      c = lowestFit P p
-
-      rest : List ℕ
-      rest = fit-extends k (one p) .0
-
-      whole-is : fitFrom P k (one p) ≡ p ++ (c ∷ rest)
-      unfolding rest
-      whole-is = fit-extends k (one p) .1 ∙ append-snoc p c _
-
-      feasible : Feasible P (p ++ (c ∷ rest))
-      feasible = rw (← whole-is) (fit-feasible k (one p) (one-long p k e) (one-partial p h))
-
-      tried-next : tried P p c ≡ true
-      tried-next = ⊎-elim (λ t. t) (λ t.
-          let x = redundant p c rest t feasible in
-          absurd (true≢false (sym (choice-fits P p (x .choice) (x .rest) (x .feasible))
-          ∙ next p .passed (x .choice) (choice-within P p (x .choice) (x .rest) (x .feasible)) (x .earlier)))) (true-or-false (tried P p c))
-
-      enters : entered P p c b ≡ true
-      unfolding entered
-      enters =
-          and-intro _ _ (and-intro _ _ (next p .fits-there) tried-next)
-          (lt-ltb _ b (omega (arith, rw whole-is at i, snoc-mono P p c rest 0, excess-le P _ feasible)))
-
-      -- what has been passed over, c itself, and what is left
-      abbrev below : List ℕ → ℕ → List Step
-      below p′ b′ = visit P k p′ b′
-
-      abbrev j : ℕ
-      j = next p .at
-
-      others : List Step
-      others = tryAll P k below p (drop (suc j) (choices m)) (boundAfter P b (into k below p c b))
-
-      passes : (y : ℕ) → y < j → entered P p (getD (choices m) y 0) b ≡ false
-      passes y l =
-          unfit p _ b (next p .passed _ (choice-le m y (omega (arith, next p .within)))
-          (rw (next p .is) at (choices-ordered m y j l (omega (arith, length-choices m, next p .within)))))
-
-      visits : visit P (suc k) p b ≡ into k below p c b ++ others
-      unfolding visit others
-      visits =
-          try-pass k below p b (choices m) j passes
-          ∙ rw (drop-cons (choices m) j 0 (omega (arith, length-choices m, next p .within)), next p .is)
-          (try-enter P k below p c (drop (suc j) (choices m)) b enters)
-
-      -- where the steps below c descend, so do these
-      module _ (d : Descends k (one p) (visit P k (one p) b)) where
-        no-others : rejected P (fitFrom P k (one p)) ≡ 0 → others ≡ []
-        unfolding others
-        no-others z = rw (d .is, d .ends z, append-nil (descent k (one p)), descent-bound k (one p) b, z) (try-zero k below p _)
-
-        descend : Descends (suc k) p (visit P (suc k) p b)
-        unfolding descent fitFrom
-        descend = record {
-          later = d .later ++ others;
-          is = visits ∙ ap (λ (l : List Step). stepInto k (one p) ∷ l)
-              (ap (λ (l : List Step). l ++ others) (d .is) ∙ append-assoc (descent k (one p)) (d .later) others);
-          ends = λ z. rw (d .ends z) (no-others z);
-        }
-
-    descends : (k : ℕ) (p : List ℕ) (b : ℕ) → length p + k ≡ n → Partial P p → rejected P (fitFrom P k p) < b → Descends k p (visit P k p b)
-    unfolding descent fitFrom visit
-    descends zero p b e h i = record { later = []; is = refl; ends = λ z. refl }
-    descends (suc k) p b e h i = descend k p b e h i (descends k (one p) b (one-long p k e) (one-partial p h) i)
-
-    pub first-descent : FirstDescent P
-    unfolding trace stored firstFit
-    first-descent = record {
-      long = omega (arith, counted);
-      stores = ap (λ (t : List Step). storedAfter (none P) t) (rw (d .is) (take-at (descent n []) (d .later) n (descent-long n [])))
-          ∙ descent-root n refl;
-      alone = λ z. omega (arith, counted, ap length (d .ends z));
-    }
-      where
-        d : Descends n [] (trace P)
-        d = descends n [] (total P + 1) (omega arith) (start P) (omega (arith, demandOn-le-sum 0 (P .demands) (fitFrom P n [])))
-
-        counted : length (trace P) ≡ n + length (d .later)
-        counted = rw (d .is) (omega (arith, length-append (descent n []) (d .later), descent-long n []))

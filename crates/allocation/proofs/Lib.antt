@@ -9,5 +9,6 @@ pub mod Progress
 pub mod Reorder
 pub mod Guarantee
 pub mod FirstFit
+pub mod Descent
 pub mod Quick
 pub mod Examples

@@ -18,7 +18,8 @@ use Rattle.allocation.specs.FirstFit.{firstFit, tableFit, FirstDescent, 
 use Rattle.allocation.proofs.Optimal.{none, stored-falls}
 use Rattle.allocation.proofs.Reorder.{inPlanningOrder-long, feasible-long, feasible-scatter, rejected-scatter}
 use Rattle.allocation.proofs.Guarantee.{tried-redundant}
-use Rattle.allocation.proofs.FirstFit.{first-feasible, first-lowest, first-only, first-descent}
+use Rattle.allocation.proofs.FirstFit.{first-feasible, first-lowest, first-only}
+use Rattle.allocation.proofs.Descent.{first-descent}
 
 module _ (T : Problem) (order : List ℕ) (perm : Permutation (length (T .demands)) order) where
   abbrev P : Problem

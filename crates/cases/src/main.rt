@@ -139,8 +139,9 @@ fn run_tabled(code: u8) -> bool {
 // Runs a case by its code; false where there is no such code, the case is not whole, or the output fails.
 fn run_case(code: u8) -> bool {
     match code {
+        1 | 2 | 3 | 5 => run_tabled(code),
         4 => run_record(),
-        _ => run_tabled(code),
+        _ => false,
     }
 }
 
