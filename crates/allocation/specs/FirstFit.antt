@@ -1,4 +1,4 @@
--- First fit: the tasks in planning order, each on the lowest core where it still fits, or left out.
+-- First fit (the field's first-fit decreasing): the tasks in planning order, each on the lowest core where it still fits, or left out.
 use Prim.Native.Nat.{ℕ, zero, suc, _+_, _≤_, _<_}
 use mathlib.Core.Path.{_≡_}
 use mathlib.Core.Bool.{true, false}

@@ -136,12 +136,11 @@ fn run_tabled(code: u8) -> bool {
     run_on(code, &table[..n])
 }
 
-// Runs a case by its code; false where there is no such code, the case is not whole, or the output fails.
+// Runs a case by its code: each but code 4 begins with a table. False where there is no such code, the case is not whole, or the output fails.
 fn run_case(code: u8) -> bool {
     match code {
-        1 | 2 | 3 | 5 => run_tabled(code),
         4 => run_record(),
-        _ => false,
+        _ => run_tabled(code),
     }
 }
 

@@ -12,7 +12,7 @@ use Rattle.stored.specs.Form.{fieldsOf, taskCount, coreCount}
 use Rattle.stored.specs.Limits.{Valid}
 use Rattle.allocation.specs.Placement.{Feasible, rejected}
 use Rattle.planner.specs.Problem.{tableProblem}
-use Rattle.quick.proofs.PromiseLaws.{quick-safe, quick-lowest, quick-answered}
+use Rattle.quick.proofs.PromiseLaws.{quick-decides, quick-safe, quick-lowest, quick-answered}
 use Rattle.edf.specs.Guarantee.{answers, periodStart, receivedIn, owedIn}
 use Rattle.start.specs.Starts.{startOf}
 use Rattle.guarantees.specs.Demands.{ValidPlacement, exactLoad, QuickDemand}
@@ -74,7 +74,7 @@ quick-demand = record {
   safe = λ table v core least most. load-fits table quickly v core least most;
   placed = λ table. quick-safe table refl;
   lowest = λ table. quick-lowest table refl;
-  exact = λ table. quick-answered table refl .exact;
+  exact = λ table v. quick-answered table refl .exact (quick-decides table refl .accepted .1 v .0);
   no-less = λ table. quick-answered table refl .no-less;
   descent = λ table. quick-answered table refl .descent;
 }

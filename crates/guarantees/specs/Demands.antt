@@ -18,8 +18,9 @@ use Rattle.stored.specs.Tests.{readingOf}
 use Rattle.stored.specs.Limits.{Valid, conditions}
 use Rattle.planner.specs.Plan.{planOf, verdictOutcome}
 use Rattle.planner.specs.Promise.{Promise, Plans}
+use Rattle.planner.specs.declared.Verdict.the-variants.{All, Spent}
 use Rattle.quick.specs.Quick.{quickOf}
-use Rattle.quick.specs.Promise.{quickChoices, Safe, Lowest, Exact, NoLess, Descent, RefusedQuick}
+use Rattle.quick.specs.Promise.{quickChoices, Safe, Lowest, Descent, RefusedQuick}
 use Rattle.firmware.specs.Call.{codeFor, bufferAfter}
 use Rattle.firmware.specs.Service.{Answers}
 use Rattle.edf.specs.Guarantee.{TickGuarantee}
@@ -72,9 +73,10 @@ pub record QuickDemand : Type 0 where
   -- Each task, in the planning order, is on the lowest core where it fits, or left out.
   pub lowest : (table : List ℕ) → Valid table → Lowest (fieldsOf table) (quickOf table)
   -- If it leaves nothing out, the exact planner with a limit of at least n gives the same placement in n steps.
-  pub exact : (table : List ℕ) → Exact table (quickOf table)
+  pub exact : (table : List ℕ) → Valid table → quickOf table .rejected ≡ 0 → (limit : ℕ) → taskCount table ≤ limit
+      → planOf table limit ≡ record { verdict = All; placement = quickOf table .placement; rejected = 0; steps = taskCount table }
   -- Its left-out weight is never below the exact planner's, unless that one was spent.
-  pub no-less : (table : List ℕ) → NoLess table (quickOf table)
+  pub no-less : (table : List ℕ) (limit : ℕ) → planOf table limit .verdict ≢ Spent → planOf table limit .rejected ≤ quickOf table .rejected
   -- More than was asked: with a limit of n the exact planner returns it, and with a larger one nothing that leaves out more, spent or not.
   pub descent : (table : List ℕ) → Descent table (quickOf table)
 

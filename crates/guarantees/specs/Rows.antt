@@ -63,8 +63,12 @@ rowC = tableOf 1 (2 ∷ 3 ∷ 6 ∷ []) (1 ∷ 1 ∷ 1 ∷ [])
 abbrev pub rowD : List ℕ
 rowD = tableOf 2 (10 ∷ 10 ∷ 10 ∷ 10 ∷ 10 ∷ []) (5 ∷ 5 ∷ 4 ∷ 3 ∷ 3 ∷ [])
 
-abbrev pub tight : List ℕ
-tight = tableOf 2 (10 ∷ 10 ∷ 10 ∷ 10 ∷ 10 ∷ 10 ∷ []) (5 ∷ 4 ∷ 3 ∷ 3 ∷ 3 ∷ 2 ∷ [])
+abbrev pub packed : List ℕ
+packed = tableOf 2 (10 ∷ 10 ∷ 10 ∷ 10 ∷ 10 ∷ 10 ∷ []) (5 ∷ 4 ∷ 3 ∷ 3 ∷ 3 ∷ 2 ∷ [])
+
+-- one whose weights are no times: two tasks of weights 4 and 7 on a core that holds 10
+abbrev pub crowded : List ℕ
+crowded = tableOf 1 (5 ∷ 10 ∷ []) (2 ∷ 7 ∷ [])
 
 -- sixteen requests: full ones, and the same with none from task 1
 abbrev pub full : List ℕ
@@ -82,16 +86,18 @@ front slots = slots ++ replicate 13 emptySlot
 
 -- Quick plans. Row d's table, where first fit places all; six tasks that fill two cores, where first fit leaves out the last and the exact
 -- plan nothing; two that fill a core exactly; the listing, where first fit leaves out more than the exact plan; the request's order, by which
--- the axis loop goes first; a refusal, and what the program prints.
+-- the axis loop goes first; and what the programs print: a left-out weight that stands nowhere else in the output, and a refusal.
 unfoldable pub quicks : List Row
 quicks =
     quick rowD (1 ∷ 1 ∷ 2 ∷ 2 ∷ 2 ∷ []) 0
-    ∷ quick tight (1 ∷ 1 ∷ 2 ∷ 2 ∷ 2 ∷ 0 ∷ []) 2
-    ∷ plans tight 1000000 All (1 ∷ 2 ∷ 1 ∷ 2 ∷ 2 ∷ 1 ∷ []) 0 11
+    ∷ quick packed (1 ∷ 1 ∷ 2 ∷ 2 ∷ 2 ∷ 0 ∷ []) 2
+    ∷ plans packed 1000000 All (1 ∷ 2 ∷ 1 ∷ 2 ∷ 2 ∷ 1 ∷ []) 0 11
     ∷ quick (tableOf 1 (10 ∷ 10 ∷ []) (3 ∷ 7 ∷ [])) (1 ∷ 1 ∷ []) 0
     ∷ quick listing (1 ∷ 0 ∷ 0 ∷ []) 10
     ∷ quick (tableOf 2 (1000 ∷ 10 ∷ []) (600 ∷ 6 ∷ [])) (2 ∷ 1 ∷ []) 0
-    ∷ printsQuick tight "table 6 2 10\n1 10 5 1\n2 10 4 1\n3 10 3 2\n4 10 3 2\n5 10 3 2\n6 10 2 0\nquick 2\n"
+    ∷ printsQuick packed "table 6 2 10\n1 10 5 1\n2 10 4 1\n3 10 3 2\n4 10 3 2\n5 10 3 2\n6 10 2 0\nquick 2\n"
+    ∷ printsQuick crowded "table 2 1 10\n1 5 2 0\n2 10 7 1\nquick 4\n"
+    ∷ prints crowded "table 2 1 10\n1 5 2 0\n2 10 7 1\nshort 4 2\n"
     ∷ printsQuick (tableOf 1 (1000 ∷ 1001 ∷ []) (1 ∷ 1 ∷ [])) "refused 7 2\n"
     ∷ []
 

@@ -28,7 +28,7 @@ use Rattle.planner.specs.Plan.{verdictOf, allocationOf, planFor, refusedPlan, p
 use Rattle.planner.proofs.PromiseLaws.{demands-long, stated-order, order-permutation, promised}
 use Rattle.planner.specs.declared.Verdict.the-variants.{All, Spent}
 use Rattle.quick.specs.Quick.{quickPlacement, quickFor, refusedQuick, quickBy, quickOf}
-use Rattle.quick.specs.Promise.{quickChoices, Safe, Lowest, Exact, NoLess, Descent, RefusedQuick}
+use Rattle.quick.specs.Promise.{quickChoices, Safe, Lowest, Agrees, NoLess, Descent, RefusedQuick}
 use Rattle.quick.specs.declared.QuickPlan.{QuickPlan}
 
 -- ---- fields within the limits
@@ -96,7 +96,7 @@ quick-outcome (outcome.Refused c) f = refl
 
 -- what is promised whether or not the table is valid
 pub record Answered (s : List ℕ) (r : QuickPlan) : Type 0 where
-  pub exact : Exact s r
+  pub exact : Agrees s r
   pub no-less : NoLess s r
   pub descent : Descent s r
   pub refused : numberIn (r .outcome) ≢ 0 → RefusedQuick r
@@ -145,7 +145,7 @@ module _ (s : List ℕ) {r : QuickPlan} (e : r ≡ quickOf s) where
   -- one within the other, as the contract's clauses stand
   pub quick-promised : (r ≡ quickOf s) × (Decides (Valid s) (conditions s) (r .outcome)
       × ((Valid s → Safe (fieldsOf s) r) × ((Valid s → Lowest (fieldsOf s) r)
-      × (Exact s r × (NoLess s r × (Descent s r × (numberIn (r .outcome) ≢ 0 → RefusedQuick r)))))))
+      × (Agrees s r × (NoLess s r × (Descent s r × (numberIn (r .outcome) ≢ 0 → RefusedQuick r)))))))
   quick-promised = (
     e,
     (quick-decides, (quick-safe, (quick-lowest, (quick-answered .exact, (quick-answered .no-less, (quick-answered .descent, quick-answered .refused)))))),

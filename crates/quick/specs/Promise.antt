@@ -43,8 +43,8 @@ pub record Lowest (f : Fields) (r : QuickPlan) : Type 0 where
   pub ordered : InOrder (tableProblem f .demands) (f .periods) (orderOf f) × Permutation (f .n) (orderOf f)
 
 -- If it is accepted and leaves nothing out, the exact planner with any limit of at least n gives the same placement in n steps.
-abbrev pub Exact : List ℕ → QuickPlan → Type 0
-Exact table r = numberIn (r .outcome) ≡ 0 → r .rejected ≡ 0 → (limit : ℕ) → taskCount table ≤ limit
+abbrev pub Agrees : List ℕ → QuickPlan → Type 0
+Agrees table r = numberIn (r .outcome) ≡ 0 → r .rejected ≡ 0 → (limit : ℕ) → taskCount table ≤ limit
     → planOf table limit ≡ record { verdict = All; placement = r .placement; rejected = 0; steps = taskCount table }
 
 -- Its left-out weight is never below the exact planner's, unless that one was spent.
