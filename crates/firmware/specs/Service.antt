@@ -36,6 +36,6 @@ pub record Keeps (s buffer : List ℕ) (limit code : ℕ) (after : List ℕ) : T
   -- The first n bytes are the core numbers of a plan that keeps the planner's promise,
   pub plan : Allocation
   pub promise : Promise (fieldsOf s) limit plan
-  pub written : take (taskCount s) after ≡ choicesOf (fieldsOf s) plan
+  pub written : take (taskCount s) after ≡ choicesOf (fieldsOf s) (plan .placement)
   -- and every byte from n on is what it was.
   pub beyond : drop (taskCount s) after ≡ drop (taskCount s) buffer

@@ -10,28 +10,24 @@ use Rattle.refusal.proofs.ConditionLaws.{gives-accepted}
 use Rattle.taskset.specs.Demands.{hyperperiodOf, demandOf}
 use Rattle.stored.specs.Form.{fieldsOf, taskCount, coreCount}
 use Rattle.stored.specs.Limits.{Valid}
-use Rattle.allocation.specs.Placement.{Feasible, rejected}
 use Rattle.planner.specs.Problem.{tableProblem}
+use Rattle.planner.specs.Promise.{Safe}
 use Rattle.quick.proofs.PromiseLaws.{quick-decides, quick-safe, quick-lowest, quick-answered}
 use Rattle.edf.specs.Guarantee.{answers, periodStart, receivedIn, owedIn}
 use Rattle.start.specs.Starts.{startOf}
 use Rattle.guarantees.specs.Demands.{ValidPlacement, exactLoad, QuickDemand}
-use Rattle.guarantees.specs.Chain.{Plan, exactly, quickly, placementOf, leftOutOf, tasksOf, recordOf, Chain}
+use Rattle.guarantees.specs.Chain.{Plan, exactly, quickly, rowOf, placementOf, leftOutOf, tasksOf, recordOf, Chain}
 use Rattle.guarantees.proofs.LoadLaws.{planned-load}
 use Rattle.guarantees.proofs.DemandLaws.{demand-two, demand-three}
 
 -- what both planners promise
-record Kept (table : List ℕ) (plan : Plan) : Type 0 where
-  feasible : Feasible (tableProblem (fieldsOf table)) (placementOf table plan)
-  rejects : leftOutOf table plan ≡ rejected (tableProblem (fieldsOf table)) (placementOf table plan)
-
-kept : (table : List ℕ) (plan : Plan) → Valid table → Kept table plan
-kept table (exactly limit) v = let p = demand-two table limit v in record { feasible = p .feasible; rejects = p .rejects }
-kept table quickly v = let p = quick-safe table refl v in record { feasible = p .feasible; rejects = p .rejects }
+safe : (table : List ℕ) (plan : Plan) → Valid table → Safe (fieldsOf table) (rowOf table plan) (leftOutOf table plan)
+safe table (exactly limit) v = demand-two table limit v .safe
+safe table quickly v = quick-safe table refl v
 
 module _ (table : List ℕ) (plan : Plan) (v : Valid table) where
-  promise : Kept table plan
-  promise = kept table plan v
+  promise : Safe (fieldsOf table) (rowOf table plan) (leftOutOf table plan)
+  promise = safe table plan v
 
   long : length (placementOf table plan) ≡ fieldsOf table .n
   unfolding tableProblem
@@ -43,7 +39,7 @@ module _ (table : List ℕ) (plan : Plan) (v : Valid table) where
 
   load-fits : (core : ℕ) → 1 ≤ core → core ≤ coreCount table → exactLoad table (placementOf table plan) core ≤ hyperperiodOf (fieldsOf table)
   unfolding fieldsOf tableProblem
-  load-fits core least most = rw (← planned-load table (placementOf table plan) core long) (promise .feasible .fits core least most)
+  load-fits core least most = rw (← planned-load table (placementOf table plan) core long) (promise .loads core least most)
 
   starts-each : (core : ℕ) → 1 ≤ core → core ≤ coreCount table → startOf table (placementOf table plan) core .outcome ≡ Accepted
   starts-each core least most =

@@ -10,7 +10,6 @@ use Rattle.stored.specs.Limits.{Valid}
 use Rattle.planner.specs.Plan.{planOf}
 use Rattle.planner.specs.Promise.{choicesOf}
 use Rattle.quick.specs.Quick.{quickOf}
-use Rattle.quick.specs.Promise.{quickChoices}
 use Rattle.edf.specs.declared.Slot.{Slot}
 use Rattle.edf.specs.Fresh.{Tasks}
 use Rattle.edf.specs.Guarantee.{answers, periodStart, receivedIn, owedIn}
@@ -22,14 +21,18 @@ pub data Plan : Type 0 where
   exactly : ℕ → Plan
   quickly : Plan
 
--- the placement that it gives a table's tasks, and its left-out demand
-abbrev pub placementOf : List ℕ → Plan → List ℕ
-placementOf table (exactly limit) = choicesOf (fieldsOf table) (planOf table limit)
-placementOf table quickly = quickChoices (fieldsOf table) (quickOf table)
+-- its row of sixteen for a table, and its left-out demand
+abbrev pub rowOf : List ℕ → Plan → List ℕ
+rowOf table (exactly limit) = planOf table limit .placement
+rowOf table quickly = quickOf table .placement
 
 abbrev pub leftOutOf : List ℕ → Plan → ℕ
 leftOutOf table (exactly limit) = planOf table limit .rejected
 leftOutOf table quickly = quickOf table .rejected
+
+-- the placement that it gives the table's tasks
+abbrev pub placementOf : List ℕ → Plan → List ℕ
+placementOf table plan = choicesOf (fieldsOf table) (rowOf table plan)
 
 -- the tasks under that placement
 abbrev pub tasksOf : List ℕ → Plan → Tasks

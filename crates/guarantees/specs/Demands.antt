@@ -17,10 +17,10 @@ use Rattle.stored.specs.Form.{fieldsOf, taskCount, coreCount}
 use Rattle.stored.specs.Tests.{readingOf}
 use Rattle.stored.specs.Limits.{Valid, conditions}
 use Rattle.planner.specs.Plan.{planOf, verdictOutcome}
-use Rattle.planner.specs.Promise.{Promise, Plans}
+use Rattle.planner.specs.Promise.{choicesOf, Safe, Promise, Plans}
 use Rattle.planner.specs.declared.Verdict.the-variants.{All, Spent}
 use Rattle.quick.specs.Quick.{quickOf}
-use Rattle.quick.specs.Promise.{quickChoices, Safe, Lowest, Descent, RefusedQuick}
+use Rattle.quick.specs.Promise.{Lowest, Descent, RefusedQuick}
 use Rattle.firmware.specs.Call.{codeFor, bufferAfter}
 use Rattle.firmware.specs.Service.{Answers}
 use Rattle.edf.specs.Guarantee.{TickGuarantee}
@@ -68,8 +68,8 @@ exactLoad table placement core = sumTo (λ k. cond (eqb (entry placement k) core
 pub record QuickDemand : Type 0 where
   -- No plan puts an exact load above one on any core; each task has a core of the table, or is left out.
   pub safe : (table : List ℕ) → Valid table → (core : ℕ) → 1 ≤ core → core ≤ coreCount table
-      → exactLoad table (quickChoices (fieldsOf table) (quickOf table)) core ≤ hyperperiodOf (fieldsOf table)
-  pub placed : (table : List ℕ) → Valid table → Safe (fieldsOf table) (quickOf table)
+      → exactLoad table (choicesOf (fieldsOf table) (quickOf table .placement)) core ≤ hyperperiodOf (fieldsOf table)
+  pub placed : (table : List ℕ) → Valid table → Safe (fieldsOf table) (quickOf table .placement) (quickOf table .rejected)
   -- Each task, in the planning order, is on the lowest core where it fits, or left out.
   pub lowest : (table : List ℕ) → Valid table → Lowest (fieldsOf table) (quickOf table)
   -- If it leaves nothing out, the exact planner with a limit of at least n gives the same placement in n steps.

@@ -24,8 +24,7 @@ use Rattle.report.specs.Output.{outputOf}
 
 -- A row: a table's hyperperiod; a plan with its verdict, cores, left-out demand and steps; a quick plan with its cores and left-out demand;
 -- a refusal with its number and place; the tasks run by the ticks of a fresh core; one tick of a given record, with the task run, the
--- late task and the next record;
--- the whole output of the program, and that of the quick one.
+-- late task and the next record; the whole output of the program, and that of the quick one.
 pub data Row : Type 0 where
   frames : List ℕ → ℕ → Row
   plans : List ℕ → ℕ → Verdict → List ℕ → ℕ → ℕ → Row

@@ -5,7 +5,7 @@ use mathlib.Core.Bool.{Bool, true, false}
 use mathlib.Core.List.{List}
 use lib.ListN.{getD, take}
 use Rattle.numbers.specs.Reorder.{gather, scatter}
-use Rattle.numbers.specs.Rows.{row, entry, tab}
+use Rattle.numbers.specs.Rows.{row, entry, tab, padded}
 use Rattle.numbers.specs.Sorting.{sorted}
 use Rattle.numbers.proofs.ReorderLaws.{scatter-padded}
 use Rattle.numbers.proofs.RowLaws.{row-each}
@@ -67,9 +67,18 @@ module _ {t : TaskSet} (c : Checked t) where
     pub order-listed : Listed o (t .fields .n)
     order-listed = record { few = few; each = rw e (planning-is t few .each) }
 
-    pub front : take (t .fields .n) o ≡ orderOf (t .fields)
+    front : take (t .fields .n) o ≡ orderOf (t .fields)
     unfolding orderOf
     front = rw e (planning-front t few) ∙ ap (λ x. sorted (precedes x) (t .fields .n)) (c .is)
+
+    -- choices in planning order, put back
+    pub put-back : (p : List ℕ) {found back : List ℕ} → found ≡ padded p → back ≡ row 0 (t .fields .n) (entry (scatter (take (t .fields .n) o) found))
+        → back ≡ row 0 (t .fields .n) (entry (scatter (orderOf (t .fields)) p))
+    put-back p {found} z x =
+        x
+        ∙ ap (λ l. row 0 (t .fields .n) (entry (scatter l found))) front
+        ∙ ap (λ l. row 0 (t .fields .n) (entry (scatter (orderOf (t .fields)) l))) z
+        ∙ ap (λ l. row 0 (t .fields .n) (entry l)) (scatter-padded (orderOf (t .fields)) p)
 
     module _ {d : List ℕ} (q : d ≡ row 0 (t .fields .n) (entry (gather (take (t .fields .n) o) (t .demands)))) where
       -- the search is given the table's problem in planning order
@@ -98,10 +107,7 @@ module _ {t : TaskSet} (c : Checked t) where
         unfolding planFor allocationOf tableAnswer foundOf a
         plan-is {p} {v} x y =
             let s : p ≡ row 0 (t .fields .n) (entry (scatter (orderOf (t .fields)) (a .placement))) =
-            x
-            ∙ ap (λ l. row 0 (t .fields .n) (entry (scatter l (found .placement)))) front
-            ∙ ap (λ g. row 0 (t .fields .n) (entry (scatter (orderOf (t .fields)) (g .placement)))) found-is
-            ∙ ap (λ l. row 0 (t .fields .n) (entry l)) (scatter-padded (orderOf (t .fields)) (a .placement)) in
+            put-back (a .placement) (ap (λ g. g .placement) found-is) x in
             let u : v ≡ verdictOf (a .spent) (a .rejected) = y ∙ ap (λ g. verdictOf (g .spent) (g .rejected)) found-is in
             λ i. record { verdict = u i; placement = s i; rejected = found-is i .rejected; steps = found-is i .steps }
 

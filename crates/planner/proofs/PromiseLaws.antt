@@ -24,7 +24,6 @@ use Rattle.stored.specs.Form.{fieldsOf}
 use Rattle.stored.specs.Tests.{tableOutcome}
 use Rattle.stored.specs.Limits.{Valid, conditions}
 use Rattle.stored.proofs.TableLaws.{table-tested}
-use Rattle.planning.specs.Order.{InOrder}
 use Rattle.planning.proofs.PlainOrder.{in-order}
 use Rattle.planning.proofs.OrderLaws.{sorted-is}
 use Rattle.taskset.specs.declared.Fields.{Fields}
@@ -35,7 +34,7 @@ use Rattle.allocation.specs.Guarantee.{Guarantee}
 use Rattle.allocation.proofs.Guarantee.{guaranteed}
 use Rattle.planner.specs.Problem.{tableProblem, orderOf}
 use Rattle.planner.specs.Plan.{verdictOf, allocationOf, planFor, refusedPlan, planBy, planOf, verdictOutcome}
-use Rattle.planner.specs.Promise.{walkOf, choicesOf, Promise, RefusedPlan, Plans}
+use Rattle.planner.specs.Promise.{walkOf, choicesOf, Safe, StatedOrder, Promise, RefusedPlan, Plans}
 use Rattle.planner.specs.declared.Allocation.{Allocation}
 use Rattle.planner.specs.declared.Verdict.the-variants.{All, Short, Spent}
 
@@ -73,7 +72,7 @@ module _ (f : Fields) (w : Within f) where
   unfolding tableProblem
   demands-long = length-tab 0 (f .n) (demandOf f)
 
-  pub stated-order : InOrder (tableProblem f .demands) (f .periods) (orderOf f) × Permutation (f .n) (orderOf f)
+  pub stated-order : StatedOrder f
   unfolding orderOf taskSetOf tableProblem
   stated-order = (
     λ i j h g.
@@ -97,6 +96,20 @@ module _ (f : Fields) (w : Within f) where
       let b : k < f .n = rw demands-long at h in
       rw (getD-tab 0 (f .n) (demandOf f) k b) (demand-range w b .0)
 
+  -- a feasible placement as a row of sixteen
+  module _ {p : List ℕ} (g : Feasible (tableProblem f) p) where
+    pub row-choices : choicesOf f (row 0 (f .n) (entry p)) ≡ p
+    row-choices = take-row (f .n) p (g .whole ∙ demands-long) few
+
+    pub row-safe : Safe f (row 0 (f .n) (entry p)) (rejected (tableProblem f) p)
+    unfolding tableProblem
+    row-safe = record {
+      loads = λ core h l. rw row-choices (g .fits core h l);
+      feasible = rw row-choices g;
+      beyond = λ k h. row-beyond 0 (f .n) (entry p) k h;
+      rejects = rw row-choices;
+    }
+
   module _ (limit : ℕ) where
     a : WalkAnswer
     a = tableAnswer (tableProblem f) (orderOf f) limit
@@ -105,15 +118,9 @@ module _ (f : Fields) (w : Within f) where
     unfolding a
     keeps = guaranteed (tableProblem f) (orderOf f) order-permutation positive limit
 
-    -- the row's front is the answer's placement
-    choices-are : choicesOf f (planFor f limit) ≡ a .placement
+    choices-are : choicesOf f (planFor f limit .placement) ≡ a .placement
     unfolding planFor allocationOf a
-    choices-are = take-row (f .n) (a .placement) (keeps .feasible .whole ∙ demands-long) few
-
-    -- and zeros follow it
-    beyond : (k : ℕ) → f .n ≤ k → entry (planFor f limit .placement) k ≡ 0
-    unfolding planFor allocationOf a
-    beyond k h = row-beyond 0 (f .n) (entry (a .placement)) k h
+    choices-are = row-choices (keeps .feasible)
 
     verdict-is : planFor f limit .verdict ≡ verdictOf (a .spent) (a .rejected)
     unfolding planFor allocationOf a
@@ -144,23 +151,21 @@ module _ (f : Fields) (w : Within f) where
       λ h. verdict-is ∙ spent-is (a .spent) (a .rejected) .1 (keeps .spent .1 h),
     )
 
-    stored : ((p : List ℕ) × LastLeaf (take limit (walkOf f)) p × (choicesOf f (planFor f limit) ≡ scatter (orderOf f) p))
-        ⊎ (NoLeaf (take limit (walkOf f)) × (choicesOf f (planFor f limit) ≡ replicate (f .n) 0))
+    stored : ((p : List ℕ) × LastLeaf (take limit (walkOf f)) p × (choicesOf f (planFor f limit .placement) ≡ scatter (orderOf f) p))
+        ⊎ (NoLeaf (take limit (walkOf f)) × (choicesOf f (planFor f limit .placement) ≡ replicate (f .n) 0))
     stored = go (keeps .stores)
       where
         go : ((p : List ℕ) × LastLeaf (take limit (walkOf f)) p × (a .placement ≡ scatter (orderOf f) p))
             ⊎ (NoLeaf (take limit (walkOf f)) × (a .placement ≡ replicate (length (tableProblem f .demands)) 0))
-            → ((p : List ℕ) × LastLeaf (take limit (walkOf f)) p × (choicesOf f (planFor f limit) ≡ scatter (orderOf f) p))
-            ⊎ (NoLeaf (take limit (walkOf f)) × (choicesOf f (planFor f limit) ≡ replicate (f .n) 0))
+            → ((p : List ℕ) × LastLeaf (take limit (walkOf f)) p × (choicesOf f (planFor f limit .placement) ≡ scatter (orderOf f) p))
+            ⊎ (NoLeaf (take limit (walkOf f)) × (choicesOf f (planFor f limit .placement) ≡ replicate (f .n) 0))
         go (inl x) = inl (x .0, x .1, choices-are ∙ x .2)
         go (inr x) = inr (x .0, choices-are ∙ x .1 ∙ ap (λ (k : ℕ). replicate k 0) demands-long)
 
     pub promised : Promise f limit (planFor f limit)
-    unfolding planFor allocationOf a tableProblem
+    unfolding planFor allocationOf a
     promised = record {
-      safe = λ core h g. rw choices-are (keeps .feasible .fits core h g);
-      feasible = rw choices-are (keeps .feasible);
-      beyond = beyond;
+      safe = rw (keeps .rejects) (row-safe (keeps .feasible));
       best = λ h. rw choices-are (keeps .best (unspent h));
       ordered = stated-order;
       all = λ h. all-exactly (unspent h);
@@ -169,7 +174,6 @@ module _ (f : Fields) (w : Within f) where
       stores = λ e. stored;
       limited = λ e. keeps .limited (spent-exactly′ e);
       complete = λ h. keeps .complete (unspent h);
-      rejects = rw choices-are (keeps .rejects);
     }
       where
         spent-exactly′ : planFor f limit .verdict ≡ Spent → a .spent ≡ true

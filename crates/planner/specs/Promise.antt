@@ -25,20 +25,31 @@ use Rattle.planner.specs.declared.Verdict.the-variants.{All, Short, Spen
 abbrev pub walkOf : Fields → List Step
 walkOf f = trace (inPlanningOrder (tableProblem f) (orderOf f))
 
--- the choices of the n tasks
-abbrev pub choicesOf : Fields → Allocation → List ℕ
-choicesOf f r = take (f .n) (r .placement)
+-- the choices of the n tasks in a row of sixteen
+abbrev pub choicesOf : Fields → List ℕ → List ℕ
+choicesOf f row = take (f .n) row
+
+-- What is promised of every plan: of its placement, a row of sixteen, and of the demand that it is said to reject.
+pub record Safe (f : Fields) (row : List ℕ) (out : ℕ) : Type 0 where
+  -- No plan puts an exact load above one on any core,
+  pub loads : (core : ℕ) → 1 ≤ core → core ≤ f .m → load (tableProblem f) core (choicesOf f row) ≤ hyperperiodOf f
+  -- and each task has a core of the table, or is left out; entries beyond n are 0.
+  pub feasible : Feasible (tableProblem f) (choicesOf f row)
+  pub beyond : (k : ℕ) → f .n ≤ k → entry row k ≡ 0
+  -- The rejected demand is that of the placement.
+  pub rejects : out ≡ rejected (tableProblem f) (choicesOf f row)
+
+-- The stated order takes the tasks by falling demand, equal demands by shorter period, then by lower number; each task once.
+abbrev pub StatedOrder : Fields → Type 0
+StatedOrder f = InOrder (tableProblem f .demands) (f .periods) (orderOf f) × Permutation (f .n) (orderOf f)
 
 pub record Promise (f : Fields) (limit : ℕ) (r : Allocation) : Type 0 where
-  -- No plan puts an exact load above one on any core,
-  pub safe : (core : ℕ) → 1 ≤ core → core ≤ f .m → load (tableProblem f) core (choicesOf f r) ≤ hyperperiodOf f
-  -- and each task has a core of the table, or is left out; entries beyond n are 0.
-  pub feasible : Feasible (tableProblem f) (choicesOf f r)
-  pub beyond : (k : ℕ) → f .n ≤ k → entry (r .placement) k ≡ 0
+  -- No plan puts an exact load above one on any core; each task has a core of the table, or is left out.
+  pub safe : Safe f (r .placement) (r .rejected)
   -- Unless the step limit ran out, the plan is the best one: the least demand is rejected, the first in the stated order among equals.
-  pub best : r .verdict ≢ Spent → BestPlan (tableProblem f) (orderOf f) (choicesOf f r)
+  pub best : r .verdict ≢ Spent → BestPlan (tableProblem f) (orderOf f) (choicesOf f (r .placement))
   -- That order compares the tasks by falling demand, equal demands by shorter period, then by lower number; each task once.
-  pub ordered : InOrder (tableProblem f .demands) (f .periods) (orderOf f) × Permutation (f .n) (orderOf f)
+  pub ordered : StatedOrder f
   -- "All placed" is said if and only if a full placement exists; "short" otherwise.
   pub all : r .verdict ≢ Spent → (r .verdict ≡ All) ↔ ((q : List ℕ) × Feasible (tableProblem f) q × Full q)
   pub short : r .verdict ≢ Spent → (r .verdict ≡ Short) ↔ ((q : List ℕ) → Feasible (tableProblem f) q → Full q → ⊥)
@@ -46,13 +57,11 @@ pub record Promise (f : Fields) (limit : ℕ) (r : Allocation) : Type 0 where
   pub spent : (r .verdict ≡ Spent) ↔ (limit < length (walkOf f))
   -- Then the placement is the last complete one among the walk's first `limit` steps, or all tasks are left out if there is none.
   pub stores : r .verdict ≡ Spent
-      → ((p : List ℕ) × LastLeaf (take limit (walkOf f)) p × (choicesOf f r ≡ scatter (orderOf f) p))
-      ⊎ (NoLeaf (take limit (walkOf f)) × (choicesOf f r ≡ replicate (f .n) 0))
-  -- The step count is the number of choices entered,
+      → ((p : List ℕ) × LastLeaf (take limit (walkOf f)) p × (choicesOf f (r .placement) ≡ scatter (orderOf f) p))
+      ⊎ (NoLeaf (take limit (walkOf f)) × (choicesOf f (r .placement) ≡ replicate (f .n) 0))
+  -- The step count is the number of choices entered.
   pub limited : r .verdict ≡ Spent → r .steps ≡ limit
   pub complete : r .verdict ≢ Spent → r .steps ≡ length (walkOf f)
-  -- and the rejected demand is that of the placement.
-  pub rejects : r .rejected ≡ rejected (tableProblem f) (choicesOf f r)
 
 -- A refused plan is all zeros beside its cause.
 pub record RefusedPlan (r : Allocation) : Type 0 where

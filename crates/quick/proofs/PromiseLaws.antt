@@ -6,7 +6,6 @@ use mathlib.Core.Logic.{_≢_}
 use lib.ListN.{take}
 use native.Mathlib.Omega.{arith}
 use Rattle.numbers.specs.Rows.{row, entry}
-use Rattle.numbers.proofs.RowLaws.{row-beyond, take-row}
 use Rattle.refusal.specs.Causes.{numberIn}
 use Rattle.refusal.specs.Conditions.{Decides}
 use Rattle.refusal.proofs.CauseLaws.{number-range}
@@ -25,35 +24,27 @@ use Rattle.allocation.specs.FirstFit.{QuickGuarantee}
 use Rattle.allocation.proofs.Quick.{quick-guaranteed}
 use Rattle.planner.specs.Problem.{tableProblem, orderOf}
 use Rattle.planner.specs.Plan.{verdictOf, allocationOf, planFor, refusedPlan, planBy, planOf}
-use Rattle.planner.proofs.PromiseLaws.{demands-long, stated-order, order-permutation, promised}
+use Rattle.planner.specs.Promise.{choicesOf, Safe}
+use Rattle.planner.proofs.PromiseLaws.{demands-long, stated-order, order-permutation, row-choices, row-safe, promised}
 use Rattle.planner.specs.declared.Verdict.the-variants.{All, Spent}
 use Rattle.quick.specs.Quick.{quickPlacement, quickFor, refusedQuick, quickBy, quickOf}
-use Rattle.quick.specs.Promise.{quickChoices, Safe, Lowest, Agrees, NoLess, Descent, RefusedQuick}
+use Rattle.quick.specs.Promise.{Lowest, Agrees, NoLess, Descent, RefusedQuick}
 use Rattle.quick.specs.declared.QuickPlan.{QuickPlan}
 
 -- ---- fields within the limits
 
 module _ (f : Fields) (w : Within f) where
-  few : f .n ≤ 16
-  few = w .sizes .tasks .1
-
   keeps : QuickGuarantee (tableProblem f) (orderOf f) (quickPlacement f)
   unfolding quickPlacement
   keeps = quick-guaranteed (tableProblem f) (orderOf f) (order-permutation f w)
 
-  -- the row's front is the placement
-  choices-are : quickChoices f (quickFor f) ≡ quickPlacement f
+  choices-are : choicesOf f (quickFor f .placement) ≡ quickPlacement f
   unfolding quickFor
-  choices-are = take-row (f .n) (quickPlacement f) (keeps .feasible .whole ∙ demands-long f w) few
+  choices-are = row-choices f w (keeps .feasible)
 
-  safe : Safe f (quickFor f)
-  unfolding quickFor tableProblem
-  safe = record {
-    safe = λ core h g. rw choices-are (keeps .feasible .fits core h g);
-    feasible = rw choices-are (keeps .feasible);
-    beyond = λ k h. row-beyond 0 (f .n) (entry (quickPlacement f)) k h;
-    rejects = rw choices-are;
-  }
+  safe : Safe f (quickFor f .placement) (quickFor f .rejected)
+  unfolding quickFor
+  safe = row-safe f w (keeps .feasible)
 
   lowest : Lowest f (quickFor f)
   lowest = record {
@@ -72,7 +63,7 @@ module _ (f : Fields) (w : Within f) where
   plan-no-less : (limit : ℕ) → planFor f limit .verdict ≢ Spent → planFor f limit .rejected ≤ quickFor f .rejected
   unfolding quickFor
   plan-no-less limit h =
-      omega (arith, promised f w limit .rejects, promised f w limit .best h .least (quickPlacement f) (keeps .feasible))
+      omega (arith, promised f w limit .safe .rejects, promised f w limit .best h .least (quickPlacement f) (keeps .feasible))
 
   first-plan : planFor f (f .n) .placement ≡ quickFor f .placement
   unfolding quickFor planFor allocationOf
@@ -81,7 +72,7 @@ module _ (f : Fields) (w : Within f) where
       (ap (λ (k : ℕ). tableAnswer (tableProblem f) (orderOf f) k .placement) (sym (demands-long f w)) ∙ keeps .descent)
 
   first-rejected : planFor f (f .n) .rejected ≡ quickFor f .rejected
-  first-rejected = promised f w (f .n) .rejects ∙ ap (λ p. rejected (tableProblem f) (take (f .n) p)) first-plan ∙ sym (safe .rejects)
+  first-rejected = promised f w (f .n) .safe .rejects ∙ ap (λ p. rejected (tableProblem f) (take (f .n) p)) first-plan ∙ sym (safe .rejects)
 
   later-plans : (limit : ℕ) → f .n ≤ limit → planFor f limit .rejected ≤ quickFor f .rejected
   unfolding quickFor planFor allocationOf
@@ -136,15 +127,15 @@ module _ (s : List ℕ) {r : QuickPlan} (e : r ≡ quickOf s) where
   unfolding quickOf
   quick-decides = rw (e, quick-outcome (tableOutcome s) (fieldsOf s)) (decides (table-tested s))
 
-  pub quick-safe : Valid s → Safe (fieldsOf s) r
-  quick-safe = for-valid (Safe (fieldsOf s)) (safe (fieldsOf s))
+  pub quick-safe : Valid s → Safe (fieldsOf s) (r .placement) (r .rejected)
+  quick-safe = for-valid (λ x. Safe (fieldsOf s) (x .placement) (x .rejected)) (safe (fieldsOf s))
 
   pub quick-lowest : Valid s → Lowest (fieldsOf s) r
   quick-lowest = for-valid (Lowest (fieldsOf s)) (lowest (fieldsOf s))
 
   -- one within the other, as the contract's clauses stand
   pub quick-promised : (r ≡ quickOf s) × (Decides (Valid s) (conditions s) (r .outcome)
-      × ((Valid s → Safe (fieldsOf s) r) × ((Valid s → Lowest (fieldsOf s) r)
+      × ((Valid s → Safe (fieldsOf s) (r .placement) (r .rejected)) × ((Valid s → Lowest (fieldsOf s) r)
       × (Agrees s r × (NoLess s r × (Descent s r × (numberIn (r .outcome) ≢ 0 → RefusedQuick r)))))))
   quick-promised = (
     e,

@@ -5,7 +5,6 @@ use mathlib.Core.List.{List}
 use lib.ListN.{take}
 use Rattle.numbers.specs.Reorder.{gather, scatter}
 use Rattle.numbers.specs.Rows.{row, entry}
-use Rattle.numbers.proofs.ReorderLaws.{scatter-padded}
 use Rattle.refusal.specs.declared.Cause.{Cause}
 use Rattle.refusal.specs.declared.Outcome.the-variants as outcome
 use Rattle.taskset.specs.Limits.{Checked}
@@ -22,7 +21,7 @@ use Rattle.allocation.proofs.Reorder.{rejected-scatter}
 use Rattle.firstfit.specs.Fitted.{fittedOf}
 use Rattle.firstfit.specs.declared.Fitted.{Fitted}
 use Rattle.planner.specs.Problem.{tableProblem, orderOf}
-use Rattle.planner.proofs.PlanLaws.{front, problem-is, fields-are}
+use Rattle.planner.proofs.PlanLaws.{put-back, problem-is, fields-are}
 use Rattle.planner.proofs.PromiseLaws.{order-permutation}
 use Rattle.quick.specs.Quick.{quickPlacement, quickFor, refusedQuick, quickBy, quickOf}
 use Rattle.quick.specs.declared.QuickPlan.{QuickPlan}
@@ -42,10 +41,7 @@ module _ {t : TaskSet} (c : Checked t) {o : List ℕ} (e : o ≡ planningOrder t
   unfolding quickFor quickPlacement tableFit fittedOf
   quick-is {p} x =
       let s : p ≡ row 0 (t .fields .n) (entry (scatter (orderOf (t .fields)) (firstFit P))) =
-      x
-      ∙ ap (λ l. row 0 (t .fields .n) (entry (scatter l (fitted .placement)))) (front c e)
-      ∙ ap (λ g. row 0 (t .fields .n) (entry (scatter (orderOf (t .fields)) (g .placement)))) fitted-is
-      ∙ ap (λ l. row 0 (t .fields .n) (entry l)) (scatter-padded (orderOf (t .fields)) (firstFit P)) in
+      put-back c e (firstFit P) (ap (λ g. g .placement) fitted-is) x in
       let r : fitted .rejected ≡ rejected (tableProblem (t .fields)) (scatter (orderOf (t .fields)) (firstFit P)) =
       ap (λ g. g .rejected) fitted-is
       ∙ sym (rejected-scatter (tableProblem (t .fields)) (orderOf (t .fields)) (order-permutation (t .fields) (c .within)) (firstFit P) (first-feasible P)) in

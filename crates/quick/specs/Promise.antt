@@ -1,46 +1,29 @@
--- What is promised of the quick plan, in the table's terms: of demand 2 its first sentence, and how it stands to the exact plan.
+-- What is promised of the quick plan, in the table's terms, beside what is promised of every plan: what it is, and how it stands to the exact one.
 use Prim.Native.Nat.{ℕ, _≤_, _<_}
 use mathlib.Core.Path.{_≡_}
 use mathlib.Core.List.{List}
 use mathlib.Core.Logic.{_≢_}
-use lib.ListN.{length, take, replicate}
+use lib.ListN.{length, replicate}
 use Rattle.numbers.specs.Reorder.{gather}
-use Rattle.numbers.specs.Rows.{entry}
-use Rattle.numbers.specs.Sorting.{Permutation}
 use Rattle.refusal.specs.Causes.{numberIn}
-use Rattle.taskset.specs.Demands.{hyperperiodOf}
 use Rattle.taskset.specs.declared.Fields.{Fields}
-use Rattle.planning.specs.Order.{InOrder}
 use Rattle.stored.specs.Form.{taskCount}
-use Rattle.allocation.specs.Placement.{Feasible, load, rejected}
 use Rattle.allocation.specs.FirstFit.{OnLowest}
 use Rattle.allocation.specs.TableOrder.{inPlanningOrder}
 use Rattle.planner.specs.Problem.{tableProblem, orderOf}
 use Rattle.planner.specs.Plan.{planOf}
+use Rattle.planner.specs.Promise.{choicesOf, StatedOrder}
 use Rattle.planner.specs.declared.Verdict.the-variants.{All, Spent}
 use Rattle.quick.specs.declared.QuickPlan.{QuickPlan}
 
--- the choices of the n tasks
-abbrev pub quickChoices : Fields → QuickPlan → List ℕ
-quickChoices f r = take (f .n) (r .placement)
-
-pub record Safe (f : Fields) (r : QuickPlan) : Type 0 where
-  -- No plan puts an exact load above one on any core,
-  pub safe : (core : ℕ) → 1 ≤ core → core ≤ f .m → load (tableProblem f) core (quickChoices f r) ≤ hyperperiodOf f
-  -- and each task has a core of the table, or is left out; entries beyond n are 0.
-  pub feasible : Feasible (tableProblem f) (quickChoices f r)
-  pub beyond : (k : ℕ) → f .n ≤ k → entry (r .placement) k ≡ 0
-  -- The rejected demand is that of the placement.
-  pub rejects : r .rejected ≡ rejected (tableProblem f) (quickChoices f r)
-
 pub record Lowest (f : Fields) (r : QuickPlan) : Type 0 where
   -- In planning order each task is on the lowest core that has room for it beside those before it, and left out exactly if none has.
-  pub each : (k : ℕ) → k < f .n → OnLowest (inPlanningOrder (tableProblem f) (orderOf f)) (gather (orderOf f) (quickChoices f r)) k
+  pub each : (k : ℕ) → k < f .n → OnLowest (inPlanningOrder (tableProblem f) (orderOf f)) (gather (orderOf f) (choicesOf f (r .placement))) k
   -- No other placement of the n tasks is so.
   pub only : (other : List ℕ) → length other ≡ f .n
-      → ((k : ℕ) → k < f .n → OnLowest (inPlanningOrder (tableProblem f) (orderOf f)) (gather (orderOf f) other) k) → other ≡ quickChoices f r
+      → ((k : ℕ) → k < f .n → OnLowest (inPlanningOrder (tableProblem f) (orderOf f)) (gather (orderOf f) other) k) → other ≡ choicesOf f (r .placement)
   -- That order takes the tasks by falling demand, equal demands by shorter period, then by lower number; each task once.
-  pub ordered : InOrder (tableProblem f .demands) (f .periods) (orderOf f) × Permutation (f .n) (orderOf f)
+  pub ordered : StatedOrder f
 
 -- If it is accepted and leaves nothing out, the exact planner with any limit of at least n gives the same placement in n steps.
 abbrev pub Agrees : List ℕ → QuickPlan → Type 0

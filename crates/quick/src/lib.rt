@@ -7,7 +7,8 @@ ghost use Rattle.taskset.specs.Limits.{Checked};
 ghost use Rattle.stored.specs.Form.{fieldsOf};
 ghost use Rattle.stored.specs.Limits.{Valid, conditions};
 ghost use Rattle.quick.specs.Quick.{quickFor, refusedQuick, quickOf};
-ghost use Rattle.quick.specs.Promise.{Safe, Lowest, Agrees, NoLess, Descent, RefusedQuick};
+ghost use Rattle.planner.specs.Promise.{Safe};
+ghost use Rattle.quick.specs.Promise.{Lowest, Agrees, NoLess, Descent, RefusedQuick};
 use refusal::Cause;
 use refusal::Outcome;
 use taskset::TaskSet;
@@ -53,7 +54,7 @@ pub fn quick_tasks(t: TaskSet) -> QuickPlan
 pub fn quick_plan(table: &[u8]) -> QuickPlan
     ensures answer { λ r. ⌜ r ≡ quickOf (now (table .entry)) ⌝ }
     ensures decides { λ r. ⌜ Decides (Valid (now (table .entry))) (conditions (now (table .entry))) (r .outcome) ⌝ }
-    ensures safe { λ r. ⌜ (Valid (now (table .entry)) → Safe (fieldsOf (now (table .entry))) r) ⌝ }
+    ensures safe { λ r. ⌜ (Valid (now (table .entry)) → Safe (fieldsOf (now (table .entry))) (r .placement) (r .rejected)) ⌝ }
     ensures lowest { λ r. ⌜ (Valid (now (table .entry)) → Lowest (fieldsOf (now (table .entry))) r) ⌝ }
     ensures exact { λ r. ⌜ Agrees (now (table .entry)) r ⌝ }
     ensures no_less { λ r. ⌜ NoLess (now (table .entry)) r ⌝ }
