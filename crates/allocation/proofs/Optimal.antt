@@ -39,7 +39,7 @@ module _ (P : Problem) where
   }
 
   -- what the walk completes is feasible, where the number of tasks is k
-  sound : (k : ℕ) → length (P .demands) ≡ k → Leaves (Feasible P) (visit P k [] (total P + 1))
+  sound : (k : ℕ) → length (P .demands) ≡ k → Leaves P (λ _. Feasible P) (total P + 1) (visit P k [] (total P + 1))
   unfolding visit stepInto
   sound zero l = tt
   sound (suc k) l = into-sound P (suc k) [] (total P + 1) (omega arith) start
@@ -47,7 +47,7 @@ module _ (P : Problem) where
   -- whatever the limit, what is stored is feasible
   pub stored-feasible : (limit : ℕ) → Feasible P (stored P limit)
   unfolding stored trace
-  stored-feasible limit = leaves-stored (Feasible P) limit none (trace P) none-feasible (sound (length (P .demands)) refl)
+  stored-feasible limit = leaves-stored P (Feasible P) limit (total P + 1) none (trace P) none-feasible (sound (length (P .demands)) refl)
 
   -- a larger limit does not reject more
   pub stored-falls : (i j : ℕ) → j ≤ i → rejected P (stored P i) ≤ rejected P (stored P j)

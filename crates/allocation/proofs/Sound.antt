@@ -17,7 +17,7 @@ use Rattle.numbers.proofs.LoadLaws.{demandOn-other}
 use Rattle.allocation.specs.Rule.{tried}
 use Rattle.allocation.specs.Walk.{Step, stepInto, boundAfter, fits, improves, entered, tryAll, visit, choices}
 use Rattle.allocation.proofs.Order.{length-choices, choice-le}
-use Rattle.allocation.proofs.Steps.{Leaves, leaves-append, Falling, falling-append}
+use Rattle.allocation.proofs.Steps.{Leaves, leaves-append, Falling}
 
 -- the beginning of a placement that may still become feasible
 pub record Partial (P : Problem) (p : List ℕ) : Type 0 where
@@ -80,42 +80,33 @@ module _ (P : Problem) where
     unfolding tryAll
     try-enter p c cs b e = rw e
 
-    try-sound : (Q : List ℕ → Type 0) (p cs : List ℕ)
-        → ((j b : ℕ) → j < length cs → entered P p (getD cs j 0) b ≡ true → Leaves Q (into k below p (getD cs j 0) b))
-        → (b : ℕ) → Leaves Q (tryAll P k below p cs b)
+    -- a property of what each entered choice completes is one of all that the choices complete
+    try-sound : (Q : ℕ → List ℕ → Type 0) (p cs : List ℕ)
+        → ((j b : ℕ) → j < length cs → entered P p (getD cs j 0) b ≡ true → Leaves P Q b (into k below p (getD cs j 0) b))
+        → (b : ℕ) → Leaves P Q b (tryAll P k below p cs b)
     unfolding tryAll
     try-sound Q p [] h b = tt
     try-sound Q p (c ∷ cs) h b = go (entered P p c b) refl (try-sound Q p cs (λ j b′ l e. h (suc j) b′ (omega arith) e))
       where
-        go : (s : Bool) → entered P p c b ≡ s → ((b′ : ℕ) → Leaves Q (tryAll P k below p cs b′))
-            → Leaves Q (tryAll P k below p (c ∷ cs) b)
+        go : (s : Bool) → entered P p c b ≡ s → ((b′ : ℕ) → Leaves P Q b′ (tryAll P k below p cs b′))
+            → Leaves P Q b (tryAll P k below p (c ∷ cs) b)
         go false e rest = rw (try-skip p c cs b e) (rest b)
-        go true e rest = rw (try-enter p c cs b e) (leaves-append Q (into k below p c b) _ (h 0 b (omega arith) e) (rest _))
+        go true e rest = rw (try-enter p c cs b e) (leaves-append P Q b (into k below p c b) _ (h 0 b (omega arith) e) (rest _))
 
-    -- the steps of a choice, and of those after it, improve on the bound
-    try-falling : (p : List ℕ) → ((c b : ℕ) → entered P p c b ≡ true → Falling P b (into k below p c b))
-        → (cs : List ℕ) (b : ℕ) → Falling P b (tryAll P k below p cs b)
-    unfolding tryAll
-    try-falling p h [] b = tt
-    try-falling p h (c ∷ cs) b = go (entered P p c b) refl (try-falling p h cs)
-      where
-        go : (s : Bool) → entered P p c b ≡ s → ((b′ : ℕ) → Falling P b′ (tryAll P k below p cs b′)) → Falling P b (tryAll P k below p (c ∷ cs) b)
-        go false e rest = rw (try-skip p c cs b e) (rest b)
-        go true e rest = rw (try-enter p c cs b e) (falling-append P b (into k below p c b) _ (h c b e) (rest _))
-
+  -- each placement that is stored improves on the bound
   pub visit-falling : (k : ℕ) (p : List ℕ) (b : ℕ) → Falling P b (visit P k p b)
   unfolding visit stepInto
   visit-falling zero p b = tt
-  visit-falling (suc zero) p b = try-falling zero _ p (λ c b′ e. (entered-rejects p c b′ e, tt)) (choices (P .cores)) b
-  visit-falling (suc (suc k)) p b = try-falling (suc k) _ p (λ c b′ e. visit-falling (suc k) (p ++ (c ∷ [])) b′) (choices (P .cores)) b
+  visit-falling (suc zero) p b = try-sound zero _ _ p (choices (P .cores)) (λ j b′ l e. (entered-rejects p _ b′ e, tt)) b
+  visit-falling (suc (suc k)) p b = try-sound (suc k) _ _ p (choices (P .cores)) (λ j b′ l e. visit-falling (suc k) _ b′) b
 
   -- the step to the choices p, and those that follow it
   pub into-sound : (k : ℕ) (p : List ℕ) (b : ℕ) → length p + k ≡ length (P .demands) → Partial P p
-      → Leaves (Feasible P) (stepInto k p ∷ visit P k p b)
+      → Leaves P (λ _. Feasible P) b (stepInto k p ∷ visit P k p b)
   unfolding stepInto visit
   into-sound zero p b l h = (partial-whole h (omega arith), tt)
   into-sound (suc k) p b l h =
-      try-sound k (λ p′ b′. visit P k p′ b′) (Feasible P) p (choices (P .cores))
+      try-sound k (λ p′ b′. visit P k p′ b′) (λ _. Feasible P) p (choices (P .cores))
       (λ j b′ i e. let c = getD (choices (P .cores)) j 0 in
       into-sound k (p ++ (c ∷ [])) b′ (omega (arith, length-append p (c ∷ [])))
       (partial-snoc p c (entered-fits p c b′ e) (choice-le (P .cores) j (omega (arith, length-choices (P .cores)))) h)) b

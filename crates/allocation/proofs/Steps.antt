@@ -22,25 +22,26 @@ last-stored q (leaf p ∷ t) =
     inl (⊎-elim (after (leaf p))
     (λ n. record { earlier = []; later = t; split = rw (n .1); none-later = n .0 }) (last-stored p t))
 
--- every placement that the steps complete has the property
-abbrev pub Leaves : (List ℕ → Type 0) → List Step → Type 0
-Leaves Q [] = Unit {0}
-Leaves Q (inner ∷ t) = Leaves Q t
-Leaves Q (leaf p ∷ t) = Q p × Leaves Q t
+-- every placement that the steps complete has the property, which may speak of the bound before it
+abbrev pub Leaves : Problem → (ℕ → List ℕ → Type 0) → ℕ → List Step → Type 0
+Leaves P Q b [] = Unit {0}
+Leaves P Q b (inner ∷ t) = Leaves P Q b t
+Leaves P Q b (leaf p ∷ t) = Q b p × Leaves P Q (rejected P p) t
 
-module _ (Q : List ℕ → Type 0) where
-  pub leaves-append : (s t : List Step) → Leaves Q s → Leaves Q t → Leaves Q (s ++ t)
-  leaves-append [] t a b = b
-  leaves-append (inner ∷ s) t a b = leaves-append s t a b
-  leaves-append (leaf p ∷ s) t a b = (a .0, leaves-append s t (a .1) b)
+module _ (P : Problem) where
+  pub leaves-append : (Q : ℕ → List ℕ → Type 0) (b : ℕ) (s t : List Step) → Leaves P Q b s → Leaves P Q (boundAfter P b s) t → Leaves P Q b (s ++ t)
+  unfolding boundAfter
+  leaves-append Q b [] t a f = f
+  leaves-append Q b (inner ∷ s) t a f = leaves-append Q b s t a f
+  leaves-append Q b (leaf p ∷ s) t a f = (a .0, leaves-append Q (rejected P p) s t (a .1) f)
 
   -- whatever the limit, what is stored has the property
-  pub leaves-stored : (limit : ℕ) (q : List ℕ) (t : List Step) → Q q → Leaves Q t → Q (storedAfter q (take limit t))
+  pub leaves-stored : (Q : List ℕ → Type 0) (limit b : ℕ) (q : List ℕ) (t : List Step) → Q q → Leaves P (λ _. Q) b t → Q (storedAfter q (take limit t))
   unfolding storedAfter
-  leaves-stored zero q t h a = h
-  leaves-stored (suc j) q [] h a = h
-  leaves-stored (suc j) q (inner ∷ t) h a = leaves-stored j q t h a
-  leaves-stored (suc j) q (leaf p ∷ t) h a = leaves-stored j p t (a .0) (a .1)
+  leaves-stored Q zero b q t h a = h
+  leaves-stored Q (suc j) b q [] h a = h
+  leaves-stored Q (suc j) b q (inner ∷ t) h a = leaves-stored Q j b q t h a
+  leaves-stored Q (suc j) b q (leaf p ∷ t) h a = leaves-stored Q j (rejected P p) p t (a .0) (a .1)
 
 pub boundAfter-append : (P : Problem) (b : ℕ) (s t : List Step) → boundAfter P b (s ++ t) ≡ boundAfter P (boundAfter P b s) t
 unfolding boundAfter
@@ -56,17 +57,9 @@ storedAfter-append q (leaf p ∷ s) t = storedAfter-append p s t
 
 -- every placement that the steps complete rejects less than the bound before it
 abbrev pub Falling : Problem → ℕ → List Step → Type 0
-Falling P b [] = Unit {0}
-Falling P b (inner ∷ t) = Falling P b t
-Falling P b (leaf p ∷ t) = (rejected P p < b) × Falling P (rejected P p) t
+Falling P = Leaves P (λ b p. rejected P p < b)
 
 module _ (P : Problem) where
-  pub falling-append : (b : ℕ) (s t : List Step) → Falling P b s → Falling P (boundAfter P b s) t → Falling P b (s ++ t)
-  unfolding boundAfter
-  falling-append b [] t a f = f
-  falling-append b (inner ∷ s) t a f = falling-append b s t a f
-  falling-append b (leaf p ∷ s) t a f = (a .0, falling-append (rejected P p) s t (a .1) f)
-
   -- the more of them are made, the less is rejected
   pub falling-stored : (i j b : ℕ) (q : List ℕ) (t : List Step) → j ≤ i → ((p : List ℕ) → rejected P p < b → rejected P p ≤ rejected P q) → Falling P b t
       → rejected P (storedAfter q (take i t)) ≤ rejected P (storedAfter q (take j t))

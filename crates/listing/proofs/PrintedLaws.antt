@@ -1,6 +1,6 @@
 -- What is printed, by the outcome of the table's tests.
 use Prim.Native.Nat.{ℕ}
-use mathlib.Core.Path.{_≡_, refl, _∙_}
+use mathlib.Core.Path.{_≡_, refl, _∙_, ap}
 use mathlib.Core.List.{List, []}
 use native.Mathlib.Omega.{arith}
 use Rattle.refusal.specs.Causes.{numberOf, placeOf}
@@ -8,9 +8,13 @@ use Rattle.refusal.specs.declared.Cause.{Cause}
 use Rattle.refusal.specs.declared.Outcome.{Outcome}
 use Rattle.refusal.specs.declared.Outcome.the-variants.{Accepted, Refused}
 use Rattle.refusal.proofs.ConditionLaws.{decides, accepts, gives-refused}
+use Rattle.taskset.specs.Reading.{taskSetOf}
+use Rattle.taskset.specs.declared.Fields.{Fields}
 use Rattle.taskset.specs.declared.Reading.{Reading}
+use Rattle.taskset.specs.declared.TaskSet.{TaskSet}
+use Rattle.stored.specs.Form.{fieldsOf}
 use Rattle.stored.specs.Tests.{tableOutcome, readingOf}
-use Rattle.stored.proofs.TableLaws.{table-tested, read-outcome}
+use Rattle.stored.proofs.TableLaws.{table-tested, read-outcome, read-tasks}
 use Rattle.text.specs.Shown.{shown, Appended}
 use Rattle.text.specs.declared.Text.{Text}
 use Rattle.text.proofs.ClipLaws.{append-whole}
@@ -52,3 +56,11 @@ module _ (s : List ℕ) {g : Reading} (e : g ≡ readingOf s) (lines : List ℕ)
   pub printed-planned : o ≡ Accepted → x ≡ lines → x ≡ printed (tableOutcome s) lines
   unfolding printed
   printed-planned h p = p ∙ rw (← read-outcome s e, q, h)
+
+-- the lines of an answer to the task set that was read, whatever the answer and its lines
+pub plan-printed : {A : Type 0} (lines : TaskSet → A → List ℕ) (answer : Fields → A) (s : List ℕ) {g : Reading} → g ≡ readingOf s
+    → {o : Outcome} {plan : A} {x : List ℕ} → g .outcome ≡ o → o ≡ Accepted → plan ≡ answer (g .tasks .fields) → x ≡ lines (g .tasks) plan
+    → x ≡ lines (taskSetOf (fieldsOf s)) (answer (fieldsOf s))
+unfolding taskSetOf
+plan-printed lines answer s {g} e q h w p =
+    p ∙ ap (λ a. lines (g .tasks) a) w ∙ ap (λ u. lines u (answer (u .fields))) (read-tasks s e (q ∙ h))

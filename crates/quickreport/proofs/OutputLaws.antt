@@ -1,6 +1,6 @@
 -- The whole output is the one that the definition gives.
 use Prim.Native.Nat.{ℕ}
-use mathlib.Core.Path.{_≡_, sym, _∙_, ap}
+use mathlib.Core.Path.{_≡_, sym, _∙_}
 use mathlib.Core.List.{List, []}
 use native.Mathlib.Omega.{arith}
 use Rattle.refusal.specs.declared.Cause.{Cause}
@@ -8,11 +8,9 @@ use Rattle.refusal.specs.declared.Outcome.{Outcome}
 use Rattle.refusal.specs.declared.Outcome.the-variants as outcome
 use Rattle.taskset.specs.Reading.{taskSetOf, acceptedReading, readingBy}
 use Rattle.taskset.specs.declared.Fields.{Fields}
-use Rattle.taskset.specs.declared.Reading.{Reading}
 use Rattle.taskset.specs.declared.TaskSet.{TaskSet}
 use Rattle.stored.specs.Form.{fieldsOf}
 use Rattle.stored.specs.Tests.{tableOutcome, readingOf}
-use Rattle.stored.proofs.TableLaws.{read-tasks}
 use Rattle.quick.specs.Quick.{quickFor, quickBy, quickOf}
 use Rattle.quick.specs.declared.QuickPlan.{QuickPlan}
 use Rattle.quick.proofs.PromiseLaws.{quick-outcome}
@@ -54,9 +52,3 @@ output-is s = rw (quick-outcome (tableOutcome s) (fieldsOf s)) (printed-same (ta
 pub output-both : (s : List ℕ) {x : List ℕ} → x ≡ printed (tableOutcome s) (quickLines (taskSetOf (fieldsOf s)) (quickFor (fieldsOf s)))
     → (x ≡ quickOutputOf s) × Reported s x
 output-both s e = (e ∙ sym (output-is s), in-terms s _ e)
-
-pub plan-printed : (s : List ℕ) {g : Reading} → g ≡ readingOf s → {o : Outcome} {plan : QuickPlan} {x : List ℕ} → g .outcome ≡ o → o ≡ outcome.Accepted
-    → plan ≡ quickFor (g .tasks .fields) → x ≡ quickLines (g .tasks) plan → x ≡ quickLines (taskSetOf (fieldsOf s)) (quickFor (fieldsOf s))
-unfolding taskSetOf
-plan-printed s {g} e q h w p =
-    p ∙ ap (λ a. quickLines (g .tasks) a) w ∙ ap (λ u. quickLines u (quickFor (u .fields))) (read-tasks s e (q ∙ h))

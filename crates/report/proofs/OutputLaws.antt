@@ -1,18 +1,15 @@
 -- The whole output is the one that the definition gives.
 use Prim.Native.Nat.{ℕ}
-use mathlib.Core.Path.{_≡_, sym, _∙_, ap}
+use mathlib.Core.Path.{_≡_, sym, _∙_}
 use mathlib.Core.List.{List, []}
 use native.Mathlib.Omega.{arith}
 use Rattle.refusal.specs.declared.Cause.{Cause}
-use Rattle.refusal.specs.declared.Outcome.{Outcome}
 use Rattle.refusal.specs.declared.Outcome.the-variants as outcome
 use Rattle.taskset.specs.Reading.{taskSetOf, acceptedReading, readingBy}
 use Rattle.taskset.specs.declared.Fields.{Fields}
-use Rattle.taskset.specs.declared.Reading.{Reading}
 use Rattle.taskset.specs.declared.TaskSet.{TaskSet}
 use Rattle.stored.specs.Form.{fieldsOf}
 use Rattle.stored.specs.Tests.{tableOutcome, readingOf}
-use Rattle.stored.proofs.TableLaws.{read-tasks}
 use Rattle.planner.specs.Plan.{allocationOf, planFor, planBy, planOf, verdictOutcome}
 use Rattle.planner.proofs.PromiseLaws.{outcome-planned, plan-outcome}
 use Rattle.planner.specs.declared.Allocation.{Allocation}
@@ -50,9 +47,3 @@ output-is s = rw (plan-outcome s 1000000) (printed-same (tableOutcome s) (λ e. 
 pub output-both : (s : List ℕ) {x : List ℕ} → x ≡ printed (tableOutcome s) (planLines (taskSetOf (fieldsOf s)) (planFor (fieldsOf s) 1000000))
     → (x ≡ outputOf s) × Reported s x
 output-both s e = (e ∙ sym (output-is s), in-terms s _ e)
-
-pub plan-printed : (s : List ℕ) {g : Reading} → g ≡ readingOf s → {o : Outcome} {plan : Allocation} {x : List ℕ} → g .outcome ≡ o → o ≡ outcome.Accepted
-    → plan ≡ planFor (g .tasks .fields) 1000000 → x ≡ planLines (g .tasks) plan → x ≡ planLines (taskSetOf (fieldsOf s)) (planFor (fieldsOf s) 1000000)
-unfolding taskSetOf
-plan-printed s {g} e q h w p =
-    p ∙ ap (λ a. planLines (g .tasks) a) w ∙ ap (λ u. planLines u (planFor (u .fields) 1000000)) (read-tasks s e (q ∙ h))
