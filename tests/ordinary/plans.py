@@ -81,6 +81,8 @@ def walk(demands, m, hyperperiod):
     def below(placed):
         nonlocal mark
         for choice in [*range(1, m + 1), 0]:
+            if choice not in placed and any(lower not in placed for lower in range(1, choice)):
+                continue
             entered = placed + [choice]
             if choice != 0 and demand_on(choice, demands, entered) > hyperperiod:
                 continue

@@ -301,8 +301,13 @@ def telling_tables():
         table_of(1, [1], [1]),
         table_of(4, [10_000], [10_000]),
         table_of(4, [10_000], [1]),
-        # a long walk for six tasks, 326 steps
+        # a long walk for six tasks if every empty core is tried
         table_of(4, [100] * 6, [93, 86, 79, 71, 70, 48]),
+        # of several empty cores the lowest is tried; the third core, while only it is empty; a
+        # task that fits a used core beside empty ones
+        table_of(4, [10] * 5, [6] * 5),
+        table_of(3, [10] * 5, [6, 6, 6, 5, 4]),
+        table_of(4, [10] * 6, [9, 8, 2, 2, 1, 1]),
     ]
 
 

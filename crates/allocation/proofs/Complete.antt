@@ -8,7 +8,7 @@ use mathlib.Core.List.{List, [], _∷_, _++_, append-nil}
 use mathlib.Core.Logic.{_⊎_, inl, inr, ⊎-elim}
 use lib.ListN.{length, getD, length-append}
 use lib.Seq.{append-snoc, getD-append-seam, take-append-seam, take-all}
-use borrow.Author.Tests.{lt-ltb, le-leb, ne-eqb}
+use borrow.Author.Tests.{lt-ltb}
 use Rattle.allocation.specs.Placement.{Problem, Feasible, rejected, load}
 use Rattle.allocation.specs.Best.{Earlier, Before}
 use Rattle.allocation.specs.Rule.{tried, Redundant}
@@ -18,7 +18,7 @@ use Rattle.numbers.proofs.LoadLaws.{demandOn-mono}
 use Rattle.allocation.proofs.Demands.{excess-le}
 use Rattle.allocation.proofs.Order.{earlier-trans, before-ne, before-at, length-choices, choice-core, choice-none, Ordered, choices-ordered}
 use Rattle.allocation.proofs.Steps.{boundAfter-append, storedAfter-append}
-use Rattle.allocation.proofs.Sound.{into, entered-rejects, try-skip, try-enter}
+use Rattle.allocation.proofs.Sound.{fits-so, into, entered-rejects, try-skip, try-enter}
 
 -- x begins with the choices p
 abbrev pub Begins : List ℕ → List ℕ → Type 0
@@ -50,12 +50,8 @@ module _ (P : Problem) (p : List ℕ) (c : ℕ) (r : List ℕ) where
   snoc-mono d = rw append-snoc at (demandOn-mono d (P .demands) (p ++ (c ∷ [])) r)
 
 pub choice-fits : (P : Problem) (p : List ℕ) (c : ℕ) (r : List ℕ) → Feasible P (p ++ (c ∷ r)) → fits P p c ≡ true
-choice-fits P p zero r f = refl
-choice-fits P p (suc c) r f =
-    let l = f .fits (suc c) (omega arith) (choice-within P p (suc c) r f) in
-    rw (ne-eqb (suc c) 0 (λ q. omega arith))
-    (and-intro _ _ (choice-permitted P p (suc c) r f (omega arith))
-    (le-leb _ _ (le-trans (snoc-mono P p (suc c) r (suc c)) l)))
+choice-fits P p c r f =
+    fits-so P p c (λ i. (choice-permitted P p c r f i, le-trans (snoc-mono P p c r c) (f .fits c i (choice-within P p c r f))))
 
 -- all of R comes after what begins with p
 abbrev After : (List ℕ → Type 0) → List ℕ → Type 0

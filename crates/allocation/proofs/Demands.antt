@@ -1,31 +1,32 @@
--- Laws of full placements and of the excess.
+-- Laws of choices that no task has, and of the excess.
 use Prim.Native.Nat.{ℕ, zero, suc, _≤_, _<_}
 use native.Mathlib.Omega.{arith}
 use mathlib.Core.Path.{_≡_, refl}
 use mathlib.Core.List.{List, [], _∷_}
 use lib.ListN.{length, getD}
-use borrow.Author.Tests.{ne-eqb}
+use borrow.Author.Tests.{eq-eqb, ne-eqb}
 use Rattle.numbers.specs.Loads.{demandOn}
 use Rattle.numbers.proofs.SumLaws.{sumTo-front, sumTo-bound}
 use Rattle.numbers.proofs.LoadLaws.{sum-split}
-use Rattle.allocation.specs.Placement.{Problem, Feasible, Full, rejected, excess, load}
+use Rattle.allocation.specs.Placement.{Problem, Feasible, rejected, excess, load}
+use Rattle.allocation.specs.EntryRule.{Unused}
 
--- a full placement rejects nothing, and one that rejects nothing is full where each demand is at least 1
-pub full-rejects : (ws p : List ℕ) → Full p → demandOn 0 ws p ≡ 0
+-- a choice that no task has takes no demand,
+pub unused-none : (c : ℕ) (ws p : List ℕ) → Unused p c → demandOn c ws p ≡ 0
 unfolding demandOn
-full-rejects [] p h = refl
-full-rejects (w ∷ ws) [] h = refl
-full-rejects (w ∷ ws) (x ∷ p) h =
-    rw (ne-eqb x 0 (λ e. omega (arith, h 0 (omega arith)))) (omega (arith, full-rejects ws p (λ k l. h (suc k) (omega arith))))
+unused-none c [] p h = refl
+unused-none c (w ∷ ws) [] h = refl
+unused-none c (w ∷ ws) (x ∷ p) h =
+    rw (ne-eqb x c (h 0 (omega arith))) (omega (arith, unused-none c ws p (λ k l. h (suc k) (omega arith))))
 
-pub rejects-full : (ws p : List ℕ) → length p ≤ length ws → ((k : ℕ) → k < length ws → 1 ≤ getD ws k 0) → demandOn 0 ws p ≡ 0 → Full p
+-- and one that takes none has no task, where each demand is at least 1
+pub none-unused : (c : ℕ) (ws p : List ℕ) → length p ≤ length ws → ((k : ℕ) → k < length ws → 1 ≤ getD ws k 0) → demandOn c ws p ≡ 0 → Unused p c
 unfolding demandOn
-rejects-full ws [] l h e k i = absurd (omega arith)
-rejects-full [] (x ∷ p) l h e k i = absurd (omega arith)
-rejects-full (w ∷ ws) (zero ∷ p) l h e k i = absurd (omega (arith, h 0 (omega arith)))
-rejects-full (w ∷ ws) (suc x ∷ p) l h e zero i = omega arith
-rejects-full (w ∷ ws) (suc x ∷ p) l h e (suc k) i =
-    rejects-full ws p (omega arith) (λ j n. h (suc j) (omega arith)) (omega arith) k (omega arith)
+none-unused c ws [] l h e k i q = omega arith
+none-unused c [] (x ∷ p) l h e k i q = omega arith
+none-unused c (w ∷ ws) (x ∷ p) l h e zero i q = omega (arith, rw (eq-eqb x c q) at e, h 0 (omega arith))
+none-unused c (w ∷ ws) (x ∷ p) l h e (suc k) i q =
+    none-unused c ws p (omega arith) (λ j n. h (suc j) (omega arith)) (omega arith) k (omega arith) q
 
 -- a feasible placement rejects at least the excess
 pub excess-le : (P : Problem) (q : List ℕ) → Feasible P q → excess P ≤ rejected P q

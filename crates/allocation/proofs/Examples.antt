@@ -6,7 +6,7 @@ use mathlib.Core.List.{List, [], _∷_, map}
 use Rattle.numbers.specs.Sums.{sumOver}
 use Rattle.numbers.specs.Loads.{demandOn}
 use Rattle.allocation.specs.Placement.{problemOf}
-use Rattle.allocation.specs.Rule.{tried}
+use Rattle.allocation.specs.Rule.{isEmpty, someEmpty, tried}
 use Rattle.allocation.specs.Walk.{WalkAnswer, answer, trace, stored, visit, tryAll, entered, boundAfter, storedAfter, stepInto, choices, upFrom}
 
 record Example : Type 0 where
@@ -38,6 +38,8 @@ examples =
     ∷ example 10 1 (7 ∷ 6 ∷ 3 ∷ []) 1000000 (reply (1 ∷ 0 ∷ 1 ∷ []) 6 3 false)
     -- the excess is 1, so the first plan that rejects 1 ends the walk
     ∷ example 10 2 (5 ∷ 5 ∷ 5 ∷ 5 ∷ 1 ∷ []) 1000000 (reply (1 ∷ 1 ∷ 2 ∷ 2 ∷ 0 ∷ []) 1 5 false)
+    -- of several empty cores the lowest is tried: 65 steps if each were
+    ∷ example 10 4 (6 ∷ 6 ∷ 6 ∷ 6 ∷ 6 ∷ []) 1000000 (reply (1 ∷ 2 ∷ 3 ∷ 4 ∷ 0 ∷ []) 6 5 false)
     ∷ []
 
 answered : Example → WalkAnswer
@@ -47,5 +49,5 @@ expected : Example → WalkAnswer
 expected x = x .expected
 
 examples-hold : map answered examples ≡ map expected examples
-unfolding examples example reply answered expected answer trace stored visit tryAll entered tried boundAfter storedAfter stepInto choices upFrom demandOn sumOver
+unfolding examples example reply answered expected answer trace stored visit tryAll entered isEmpty someEmpty tried boundAfter storedAfter stepInto choices upFrom demandOn sumOver
 examples-hold = refl

@@ -8,8 +8,7 @@ use mathlib.Core.List.{List, [], _∷_, _++_, append-nil}
 use mathlib.Core.Logic.{⊎-elim, by-cases}
 use lib.ListN.{length, getD, take, length-append}
 use lib.Seq.{append-snoc, getD-append-seam, take-append-seam, take-all, take-suc}
-use borrow.Author.Tests.{le-leb, ne-eqb}
-use Rattle.numbers.proofs.BoolLaws.{and-intro, true-or-false}
+use Rattle.numbers.proofs.BoolLaws.{true-or-false}
 use Rattle.numbers.proofs.FirstLaws.{first-zero, first-is}
 use Rattle.numbers.proofs.LoadLaws.{demandOn-same}
 use Rattle.allocation.specs.Placement.{Problem, Feasible, load}
@@ -17,7 +16,7 @@ use Rattle.allocation.specs.Best.{Earlier, core-core, core-none}
 use Rattle.allocation.specs.Walk.{fits, choices}
 use Rattle.allocation.specs.FirstFit.{lowestFit, fitFrom, firstFit, Room, OnLowest}
 use Rattle.allocation.proofs.Order.{choice-core, choice-none, choice-le}
-use Rattle.allocation.proofs.Sound.{Partial, partial-whole, core-fits, partial-snoc}
+use Rattle.allocation.proofs.Sound.{Partial, partial-whole, fits-so, core-fits, partial-snoc}
 use Rattle.allocation.proofs.Complete.{Begins}
 use Rattle.allocation.proofs.Optimal.{start}
 
@@ -124,9 +123,7 @@ module _ (P : Problem) where
         record { number = (i, h); permitted = f .0; enough = rw take-append-seam (omega (arith, f .1, loaded d)) }
 
     fits-in : (d : ℕ) → Room P all (length p) d → fits P p d ≡ true
-    fits-in d h =
-        let l : load P d (p ++ (d ∷ [])) ≤ P .capacity = omega (arith, loaded d, rw take-append-seam at (h .enough)) in
-        rw (ne-eqb d 0 (λ q. omega (arith, h .number .0))) (and-intro _ _ (h .permitted) (le-leb _ _ l))
+    fits-in d h = fits-so P p d (λ i. (h .permitted, omega (arith, loaded d, rw take-append-seam at (h .enough))))
 
     no-lower : (d : ℕ) → 1 ≤ d → d ≤ m → fits P p d ≡ true → (1 ≤ c) × (c ≤ d)
     no-lower d i h e = go c refl

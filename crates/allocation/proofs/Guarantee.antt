@@ -2,7 +2,6 @@
 use Prim.Native.Nat.{ℕ, _≤_, _<_}
 use native.Mathlib.Omega.{arith}
 use mathlib.Core.Path.{_≡_, refl, sym}
-use mathlib.Core.Bool.{true≢false}
 use mathlib.Core.List.{List}
 use mathlib.Core.Logic.{_⊎_, ⊎-map}
 use lib.ListN.{length, getD, take, replicate}
@@ -12,20 +11,15 @@ use Rattle.numbers.specs.Reorder.{scatter}
 use Rattle.numbers.proofs.BoundLaws.{less-exactly}
 use Rattle.numbers.proofs.ReorderLaws.{scatter-none}
 use Rattle.allocation.specs.Placement.{Problem, rejected}
-use Rattle.allocation.specs.Rule.{tried, Redundant}
 use Rattle.allocation.specs.Walk.{Step, LastLeaf, NoLeaf, trace, stored, answer}
 use Rattle.allocation.specs.TableOrder.{inPlanningOrder, BestPlan, tableAnswer}
 use Rattle.allocation.specs.Guarantee.{Guarantee}
 use Rattle.allocation.proofs.Steps.{last-stored}
 use Rattle.allocation.proofs.Optimal.{none, stored-feasible, stored-best, full-iff}
+use Rattle.allocation.proofs.EmptyCores.{AlikeCores, tried-redundant}
 use Rattle.allocation.proofs.Reorder.{inPlanningOrder-long, feasible-scatter, rejected-scatter, best-scatter}
 
--- the walk passes over no choice that is not redundant
-pub tried-redundant : (P : Problem) → Redundant P
-unfolding tried
-tried-redundant P p c r e f = absurd (true≢false e)
-
-module _ (T : Problem) (order : List ℕ) (perm : Permutation (length (T .demands)) order)
+module _ (T : Problem) (alike : AlikeCores T) (order : List ℕ) (perm : Permutation (length (T .demands)) order)
     (positive : (k : ℕ) → k < length (T .demands) → 1 ≤ getD (T .demands) k 0) (limit : ℕ) where
   abbrev P : Problem
   P = inPlanningOrder T order
@@ -38,7 +32,7 @@ module _ (T : Problem) (order : List ℕ) (perm : Permutation (length (T .demand
   made = take limit (trace P)
 
   best : length (trace P) ≤ limit → BestPlan T order placed
-  best h = best-scatter T order perm (stored P limit) (stored-best P (tried-redundant P) limit h)
+  best h = best-scatter T order perm (stored P limit) (stored-best P (tried-redundant P (λ k. alike (getD order k 0))) limit h)
 
   rejects : rejected P (stored P limit) ≡ rejected T placed
   rejects = sym (rejected-scatter T order perm (stored P limit) (stored-feasible P limit))

@@ -4,6 +4,9 @@ pub mod Steps
 pub mod Sound
 pub mod Complete
 pub mod Optimal
+pub mod EmptyCores
+pub mod EntryRule
+pub mod Ceiling
 pub mod Remaining
 pub mod Progress
 pub mod Reorder

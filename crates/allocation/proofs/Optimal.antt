@@ -3,14 +3,14 @@ use Prim.Native.Nat.{ℕ, zero, suc, _+_, _≤_, _<_, zero-le}
 use native.Mathlib.Omega.{arith}
 use mathlib.Core.Path.{_≡_, refl}
 use mathlib.Core.List.{List, [], _∷_}
-use mathlib.Core.Logic.{inl, _↔_}
+use mathlib.Core.Logic.{inl, _↔_, _≢_}
 use lib.ListN.{length, getD, replicate, length-replicate}
 use lib.Seq.{take-all}
 use Rattle.allocation.specs.Placement.{Problem, Feasible, Full, rejected, total}
 use Rattle.allocation.specs.Best.{IsBest}
 use Rattle.numbers.proofs.LoadLaws.{demandOn-le-sum, none-loads, none-rejects}
 use Rattle.numbers.proofs.ZeroLaws.{zero-at}
-use Rattle.allocation.proofs.Demands.{full-rejects, rejects-full}
+use Rattle.allocation.proofs.Demands.{unused-none, none-unused}
 use Rattle.allocation.specs.Walk.{trace, visit, stepInto, stored, boundAfter, storedAfter}
 use Rattle.allocation.proofs.Steps.{Leaves, leaves-stored, falling-stored}
 use Rattle.allocation.proofs.Sound.{Partial, visit-falling, into-sound}
@@ -91,11 +91,14 @@ module _ (P : Problem) where
         beaten : (x : List ℕ) → Feasible P x → b ≤ rejected P x
         beaten x g = let m : ¬ (rejected P x < b) = s .left x g in omega arith
 
+not-zero : {n : ℕ} → n ≢ 0 → 1 ≤ n
+not-zero h = omega arith
+
 -- With the least rejected demand, nothing is rejected exactly if a full placement exists.
 pub full-iff : (P : Problem) → ((k : ℕ) → k < length (P .demands) → 1 ≤ getD (P .demands) k 0)
     → (p : List ℕ) → Feasible P p → ((q : List ℕ) → Feasible P q → rejected P p ≤ rejected P q)
     → (rejected P p ≡ 0) ↔ ((q : List ℕ) × Feasible P q × Full q)
 full-iff P positive p f least = (
-  λ e. (p, f, rejects-full (P .demands) p (omega (arith, f .whole)) positive e),
-  λ x. omega (arith, least (x .0) (x .1), full-rejects (P .demands) (x .0) (x .2)),
+  λ e. (p, f, λ k h. not-zero (none-unused 0 (P .demands) p (omega (arith, f .whole)) positive e k h)),
+  λ x. omega (arith, least (x .0) (x .1), unused-none 0 (P .demands) (x .0) (λ k h e. omega (arith, x .2 k h))),
 )

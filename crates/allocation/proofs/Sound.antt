@@ -10,9 +10,9 @@ use lib.Dec.{leb}
 use lib.ListN.{length, getD, length-append, List·getD-append}
 use lib.Seq.{getD-append-seam}
 use borrow.Author.Count.{below-more}
-use borrow.Author.Tests.{ltb-true, leb-true, ne-eqb}
+use borrow.Author.Tests.{ltb-true, leb-true, le-leb, ne-eqb}
 use Rattle.allocation.specs.Placement.{Problem, Feasible, rejected, load}
-use Rattle.numbers.proofs.BoolLaws.{and-left, and-right}
+use Rattle.numbers.proofs.BoolLaws.{and-left, and-right, and-intro}
 use Rattle.numbers.proofs.LoadLaws.{demandOn-other}
 use Rattle.allocation.specs.Rule.{tried}
 use Rattle.allocation.specs.Walk.{Step, stepInto, boundAfter, fits, improves, entered, tryAll, visit, choices}
@@ -41,7 +41,13 @@ module _ (P : Problem) where
   pub partial-whole : {p : List ℕ} → Partial P p → length p ≡ length (P .demands) → Feasible P p
   partial-whole h e = record { whole = e; core = h .core; permitted = h .permitted; fits = h .fits }
 
-  -- what the test of a choice says
+  -- a core that the task may run on and that has room for it passes the test of a choice
+  pub fits-so : (p : List ℕ) (c : ℕ) → (1 ≤ c → (P .permits (length p) c ≡ true) × (load P c (p ++ (c ∷ [])) ≤ P .capacity)) → fits P p c ≡ true
+  fits-so p zero h = refl
+  fits-so p (suc c) h =
+      let f = h (omega arith) in rw (ne-eqb (suc c) 0 (λ q. omega arith)) (and-intro _ _ (f .0) (le-leb _ _ (f .1)))
+
+  -- what the test says
   module _ (p : List ℕ) (c : ℕ) (e : fits P p c ≡ true) where
     pub core-fits : 1 ≤ c → (P .permits (length p) c ≡ true) × (load P c (p ++ (c ∷ [])) ≤ P .capacity)
     core-fits i =
@@ -61,9 +67,15 @@ module _ (P : Problem) where
 
   -- and what the entry rule says
   module _ (p : List ℕ) (c b : ℕ) (e : entered P p c b ≡ true) where
-    entered-fits : fits P p c ≡ true
+    both : (fits P p c && tried P p c) ≡ true
     unfolding entered
-    entered-fits = and-left (fits P p c) (tried P p c) (and-left (fits P p c && tried P p c) (improves P p c b) e)
+    both = and-left (fits P p c && tried P p c) (improves P p c b) e
+
+    pub entered-fits : fits P p c ≡ true
+    entered-fits = and-left (fits P p c) (tried P p c) both
+
+    pub entered-tried : tried P p c ≡ true
+    entered-tried = and-right (fits P p c) (tried P p c) both
 
     pub entered-rejects : rejected P (p ++ (c ∷ [])) < b
     unfolding entered

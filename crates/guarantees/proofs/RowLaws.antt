@@ -15,7 +15,7 @@ use Rattle.taskset.specs.Reading.{taskSetOf, acceptedReading, readingBy}
 use Rattle.stored.specs.Form.{fieldsOf}
 use Rattle.stored.specs.Tests.{tableOutcome, readingOf}
 use Rattle.planning.specs.Order.{precedes}
-use Rattle.allocation.specs.Rule.{tried}
+use Rattle.allocation.specs.Rule.{isEmpty, someEmpty, tried}
 use Rattle.allocation.specs.Walk.{upFrom, choices, stepInto, storedAfter, boundAfter, entered, tryAll, visit, trace, stored, answer}
 use Rattle.allocation.specs.TableOrder.{tableAnswer}
 use Rattle.planner.specs.Problem.{tableProblem, orderOf}
@@ -34,5 +34,5 @@ use Rattle.quickreport.specs.Output.{quickSummary, quickLines, quickOutputOf}
 use Rattle.guarantees.specs.Rows.{quicks, more, rows, AllHold}
 
 pub rows-hold : AllHold rows
-unfolding rows more quicks first firstFrom row tab upTo sumOver euclid gcd lcm lcms insert sorted position scatter demandOn _then_ refuseIf refuseAt inOrder wordAt fieldsOf multipleTo hyperperiodOf demandOf badPeriod badBudget exceeds tableOutcome taskSetOf acceptedReading readingBy readingOf precedes tried upFrom choices stepInto storedAfter boundAfter entered tryAll visit trace stored answer tableAnswer tableProblem orderOf verdictOf allocationOf planFor refusedPlan planBy planOf verdictOutcome slotTest firstSlot owedFor release releaseAll chosen advanceAll stepped refusedTick tick freshSlot freshSlots loadOf aboveAt refusedStart startBy placingOutcome startOutcome startOf front digitsBy decimal field refusalLine sizesLine taskLine taskLines tableLines verdictWord summaryLine planLines printed outputOf lowestFit fitFrom firstFit tableFit quickPlacement quickFor refusedQuick quickBy quickOf quickSummary quickLines quickOutputOf
+unfolding rows more quicks first firstFrom row tab upTo sumOver euclid gcd lcm lcms insert sorted position scatter demandOn _then_ refuseIf refuseAt inOrder wordAt fieldsOf multipleTo hyperperiodOf demandOf badPeriod badBudget exceeds tableOutcome taskSetOf acceptedReading readingBy readingOf precedes isEmpty someEmpty tried upFrom choices stepInto storedAfter boundAfter entered tryAll visit trace stored answer tableAnswer tableProblem orderOf verdictOf allocationOf planFor refusedPlan planBy planOf verdictOutcome slotTest firstSlot owedFor release releaseAll chosen advanceAll stepped refusedTick tick freshSlot freshSlots loadOf aboveAt refusedStart startBy placingOutcome startOutcome startOf front digitsBy decimal field refusalLine sizesLine taskLine taskLines tableLines verdictWord summaryLine planLines printed outputOf lowestFit fitFrom firstFit tableFit quickPlacement quickFor refusedQuick quickBy quickOf quickSummary quickLines quickOutputOf
 rows-hold = (refl, (refl, (refl, (refl, (refl, (refl, (refl, (refl, (refl, (refl, ((refl, refl), (refl, (refl, (refl, (refl, (refl, (refl, (refl, (refl, (refl, (refl, (refl, (refl, (refl, (refl, (refl, (refl, (refl, (refl, (refl, (refl, (refl, (refl, (refl, (refl, (refl, (refl, tt)))))))))))))))))))))))))))))))))))))

@@ -6,7 +6,7 @@ ghost use lib.Dec.{eqb, ltb};
 ghost use lib.ListN.{getD, set, take};
 ghost use Rattle.numbers.specs.Loads.{sum};
 ghost use Rattle.allocation.specs.Walk.{triedBy};
-ghost use Rattle.moves.specs.Entry.{mayEnter};
+ghost use Rattle.moves.specs.Entry.{mayEnter, someZero};
 
 // x where c is i, and y otherwise.
 pub fn pick(c: u32, i: u32, x: u32, y: u32) -> u32
@@ -85,6 +85,21 @@ pub fn enters_core(load: u32, h: u32, out: u32, excess: u32, bound: u32) -> bool
     ensures { λ r. ⌜ r ≡ mayEnter 1 load h out excess bound ⌝ }
 {
     (load <= h) & improves(out, excess, bound)
+}
+
+// Whether one of the cores 1 to k is empty.
+pub fn some_empty(loads: &[u32; 5], k: u32) -> bool
+    requires { ⌜ k < 5 ⌝ }
+    ensures { λ r. ⌜ r ≡ someZero (now (loads .entry)) k ⌝ }
+{
+    let mut c = k;
+    while 0 < c {
+        c -= 1;
+        if loads[c as usize + 1] == 0 {
+            return true;
+        }
+    }
+    false
 }
 
 // The sum of the first n demands.

@@ -1,7 +1,7 @@
 -- Laws of tests that combine, and of a choice between two values.
 use Prim.Native.Nat.{ℕ, _≤_, zero-le}
 use mathlib.Core.Path.{_≡_, refl}
-use mathlib.Core.Bool.{Bool, true, false, cond, _&&_, _||_, true≢false, false≢true}
+use mathlib.Core.Bool.{Bool, true, false, cond, _&&_, _||_, and-comm, true≢false, false≢true}
 use mathlib.Core.Logic.{_⊎_, inl, inr}
 
 -- a test holds or fails
@@ -20,6 +20,11 @@ and-right false b e = absurd (false≢true e)
 
 pub and-intro : (a b : Bool) → a ≡ true → b ≡ true → (a && b) ≡ true
 and-intro a b e f = rw (e, f)
+
+-- three tests in another order
+pub and-swap : (a b c : Bool) → ((a && b) && c) ≡ ((a && c) && b)
+and-swap true b c = and-comm b c
+and-swap false b c = refl
 
 -- one of them holds
 pub or-cases : (a b : Bool) → (a || b) ≡ true → (a ≡ true) ⊎ (b ≡ true)

@@ -7,7 +7,7 @@ use mathlib.Core.Bool.{cond, _&&_}
 use mathlib.Core.List.{List, [], _∷_, _++_}
 use mathlib.Core.Logic.{_≢_}
 use lib.Dec.{eqb, ltb, leb·suc-suc}
-use lib.ListN.{length, getD, take, replicate}
+use lib.ListN.{length, getD, take, drop, replicate}
 use lib.Seq.{take-nil}
 use borrow.Author.Tests.{eq-eqb, ne-eqb, lt-ltb, le-ltb}
 use Rattle.numbers.specs.Sums.{sumOver, sumTo}
@@ -15,12 +15,17 @@ use Rattle.numbers.specs.Loads.{demandOn, sum}
 use Rattle.numbers.proofs.BoolLaws.{cond-both, cond-le}
 use Rattle.numbers.proofs.SumLaws.{sumTo-bound, sumTo-add, sumTo-front, sumTo-only}
 
+-- further choices add the demand of their own tasks
+pub demandOn-append : (c : ℕ) (ws p r : List ℕ) → demandOn c ws (p ++ r) ≡ demandOn c ws p + demandOn c (drop (length p) ws) r
+unfolding demandOn
+demandOn-append c [] [] r = refl
+demandOn-append c [] (x ∷ p) r = refl
+demandOn-append c (w ∷ ws) [] r = omega arith
+demandOn-append c (w ∷ ws) (x ∷ p) r = omega (arith, demandOn-append c ws p r)
+
 -- more choices, more demand
 pub demandOn-mono : (c : ℕ) (ws p r : List ℕ) → demandOn c ws p ≤ demandOn c ws (p ++ r)
-unfolding demandOn
-demandOn-mono c [] p r = zero-le
-demandOn-mono c (w ∷ ws) [] r = zero-le
-demandOn-mono c (w ∷ ws) (x ∷ p) r = omega (arith, demandOn-mono c ws p r)
+demandOn-mono c ws p r = omega (arith, demandOn-append c ws p r)
 
 pub demandOn-none : (c : ℕ) (ws : List ℕ) → demandOn c ws [] ≡ 0
 unfolding demandOn

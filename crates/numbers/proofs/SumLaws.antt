@@ -18,6 +18,12 @@ unfolding sumTo
 sumTo-cong f g zero h = refl
 sumTo-cong f g (suc n) h = ap₂ _+_ (h n (omega arith)) (sumTo-cong f g n (λ k b. h k (omega arith)))
 
+-- sums of smaller terms
+pub sumTo-mono : (f g : ℕ → ℕ) (n : ℕ) → ((k : ℕ) → k < n → f k ≤ g k) → sumTo f n ≤ sumTo g n
+unfolding sumTo
+sumTo-mono f g zero h = omega arith
+sumTo-mono f g (suc n) h = omega (arith, h n (omega arith), sumTo-mono f g n (λ k l. h k (omega arith)))
+
 -- terms of at most b add up to at most n times b
 pub sumTo-bound : (f : ℕ → ℕ) (n b : ℕ) → ((k : ℕ) → k < n → f k ≤ b) → sumTo f n ≤ n * b
 unfolding sumTo

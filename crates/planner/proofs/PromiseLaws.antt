@@ -31,6 +31,7 @@ use Rattle.allocation.specs.Placement.{Feasible, Full, rejected}
 use Rattle.allocation.specs.Walk.{WalkAnswer, LastLeaf, NoLeaf}
 use Rattle.allocation.specs.TableOrder.{tableAnswer}
 use Rattle.allocation.specs.Guarantee.{Guarantee}
+use Rattle.allocation.proofs.EmptyCores.{AlikeCores}
 use Rattle.allocation.proofs.Guarantee.{guaranteed}
 use Rattle.planner.specs.Problem.{tableProblem, orderOf}
 use Rattle.planner.specs.Plan.{verdictOf, allocationOf, planFor, refusedPlan, planBy, planOf, verdictOutcome}
@@ -96,6 +97,10 @@ module _ (f : Fields) (w : Within f) where
       let b : k < f .n = rw demands-long at h in
       rw (getD-tab 0 (f .n) (demandOf f) k b) (demand-range w b .0)
 
+  pub alike : AlikeCores (tableProblem f)
+  unfolding tableProblem
+  alike k c d = refl
+
   -- a feasible placement as a row of sixteen
   module _ {p : List ℕ} (g : Feasible (tableProblem f) p) where
     pub row-choices : choicesOf f (row 0 (f .n) (entry p)) ≡ p
@@ -116,7 +121,7 @@ module _ (f : Fields) (w : Within f) where
 
     keeps : Guarantee (tableProblem f) (orderOf f) limit a
     unfolding a
-    keeps = guaranteed (tableProblem f) (orderOf f) order-permutation positive limit
+    keeps = guaranteed (tableProblem f) alike (orderOf f) order-permutation positive limit
 
     choices-are : choicesOf f (planFor f limit .placement) ≡ a .placement
     unfolding planFor allocationOf a

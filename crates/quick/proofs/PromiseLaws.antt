@@ -25,7 +25,7 @@ use Rattle.allocation.proofs.Quick.{quick-guaranteed}
 use Rattle.planner.specs.Problem.{tableProblem, orderOf}
 use Rattle.planner.specs.Plan.{verdictOf, allocationOf, planFor, refusedPlan, planBy, planOf}
 use Rattle.planner.specs.Promise.{choicesOf, Safe}
-use Rattle.planner.proofs.PromiseLaws.{demands-long, stated-order, order-permutation, row-choices, row-safe, promised}
+use Rattle.planner.proofs.PromiseLaws.{demands-long, stated-order, order-permutation, alike, row-choices, row-safe, promised}
 use Rattle.planner.specs.declared.Verdict.the-variants.{All, Spent}
 use Rattle.quick.specs.Quick.{quickPlacement, quickFor, refusedQuick, quickBy, quickOf}
 use Rattle.quick.specs.Promise.{Lowest, Agrees, NoLess, Descent, RefusedQuick}
@@ -36,7 +36,7 @@ use Rattle.quick.specs.declared.QuickPlan.{QuickPlan}
 module _ (f : Fields) (w : Within f) where
   keeps : QuickGuarantee (tableProblem f) (orderOf f) (quickPlacement f)
   unfolding quickPlacement
-  keeps = quick-guaranteed (tableProblem f) (orderOf f) (order-permutation f w)
+  keeps = quick-guaranteed (tableProblem f) (alike f w) (orderOf f) (order-permutation f w)
 
   choices-are : choicesOf f (quickFor f .placement) ≡ quickPlacement f
   unfolding quickFor

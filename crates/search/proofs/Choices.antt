@@ -1,22 +1,23 @@
 -- The code's test of a choice is the walk's, and what follows from it.
-use Prim.Native.Nat.{ℕ, _+_, _≤_, _<_, max}
+use Prim.Native.Nat.{ℕ, zero, suc, _+_, _≤_, _<_, max}
 use native.Mathlib.Nat.{le-trans, mul-le-mul, add-zero}
 use native.Mathlib.Numerals.{add-one}
 use native.Mathlib.Decide.{decLt}
 use native.Mathlib.Omega.{arith}
 use mathlib.Core.Path.{_≡_, refl, sym, _∙_}
-use mathlib.Core.Bool.{Bool, cond, _&&_, and-true}
+use mathlib.Core.Bool.{Bool, true, false, cond, not, _&&_, _||_, and-true, and-false}
 use mathlib.Core.List.{List}
 use mathlib.Core.Logic.{dite}
-use lib.Dec.{eqb, ltb}
+use lib.Dec.{eqb, leb, ltb}
 use lib.ListN.{length, getD, take}
-use borrow.Author.Tests.{lt-ltb, le-ltb, eq-eqb, ne-eqb}
+use borrow.Author.Tests.{lt-ltb, le-ltb, eq-eqb, ne-eqb, not-true, not-false}
+use Rattle.numbers.proofs.BoolLaws.{and-swap}
 use Rattle.numbers.proofs.LoadLaws.{sum-take-le}
 use Rattle.allocation.specs.Placement.{problemOf, total, excess}
-use Rattle.allocation.specs.Rule.{tried}
+use Rattle.allocation.specs.Rule.{isEmpty, someEmpty, tried}
 use Rattle.allocation.specs.Walk.{entered}
 use Rattle.allocation.proofs.Order.{choice-core, choice-none}
-use Rattle.moves.specs.Entry.{mayEnter}
+use Rattle.moves.specs.Entry.{mayEnter, someZero}
 use Rattle.search.specs.Search.{Ranges}
 use Rattle.search.proofs.State.{Job, problem, Fixed, Locals, locals, Walking, Looked, load-next}
 
@@ -44,23 +45,64 @@ module _ {J : Job} {L : Locals} (s : Walking J L) where
   abbrev demand : ℕ
   demand = getD (J .row) (L .depth) 0
 
+  -- the choices made
+  abbrev node : List ℕ
+  node = take (L .depth) (L .path)
+
   -- the walk's test on the code's numbers
   test-is : (x : ℕ) → let out = getD (L .loads) 0 0 + cond (eqb x 0) demand 0 in
-      entered (problem J) (take (L .depth) (L .path)) x (L .bound)
-      ≡ mayEnter x (getD (L .loads) x 0 + demand) (J .capacity) out (excess (problem J)) (L .bound)
-  unfolding entered tried
-  test-is x = rw (load-next s x x, eq-eqb x x refl, load-next s x 0, ltb-max, and-true)
+      entered (problem J) node x (L .bound)
+      ≡ (mayEnter x (getD (L .loads) x 0 + demand) (J .capacity) out (excess (problem J)) (L .bound) && tried (problem J) node x)
+  unfolding entered
+  test-is x =
+      let out = getD (L .loads) 0 0 + cond (eqb x 0) demand 0 in
+      rw (load-next s x x, eq-eqb x x refl, load-next s x 0, ltb-max)
+      (and-swap (eqb x 0 || leb (getD (L .loads) x 0 + demand) (J .capacity)) (tried (problem J) node x) (ltb out (L .bound) && ltb (excess (problem J)) (L .bound)))
 
-  -- a core is looked at
-  pub core-looked : L .next < J .cores → {over : ℕ} → over ≡ excess (problem J) → {r : Bool}
-      → r ≡ mayEnter 1 (getD (L .loads) (L .next + 1) 0 + demand) (J .capacity) (getD (L .loads) 0 0) over (L .bound)
-      → Looked J L (L .next + 1) r
-  core-looked k ex e = record {
-    state = s;
-    within = omega arith;
-    choice-is = add-one (L .next) ∙ sym (choice-core (J .cores) (L .next) k);
-    tested = rw (test-is (L .next + 1), ne-eqb (L .next + 1) 0 (λ z. omega arith), add-zero, ← ex) e;
-  }
+  -- the rule on the code's numbers
+  some-empty-is : (k : ℕ) → someZero (L .loads) k ≡ someEmpty (problem J) node k
+  unfolding someZero someEmpty isEmpty
+  some-empty-is zero = refl
+  some-empty-is (suc k) = rw (s .chosen .loads-are (suc k), some-empty-is k)
+
+  module _ (k : L .next < J .cores) where
+    tried-is : {e : Bool} → e ≡ someZero (L .loads) (L .next)
+        → tried (problem J) node (L .next + 1) ≡ not (eqb (getD (L .loads) (L .next + 1) 0) 0 && e)
+    unfolding tried isEmpty
+    tried-is f = rw (add-one (L .next), s .chosen .loads-are (suc (L .next)), f, some-empty-is (L .next))
+
+    -- core next + 1 is looked at
+    module _ {over : ℕ} (ex : over ≡ excess (problem J)) {r : Bool}
+        (fits : r ≡ mayEnter 1 (getD (L .loads) (L .next + 1) 0 + demand) (J .capacity) (getD (L .loads) 0 0) over (L .bound)) where
+      core-looked : {t : Bool} → (r && tried (problem J) node (L .next + 1)) ≡ t → Looked J L (L .next + 1) t
+      core-looked e = record {
+        state = s;
+        within = omega arith;
+        choice-is = add-one (L .next) ∙ sym (choice-core (J .cores) (L .next) k);
+        tested = sym (test-is (L .next + 1) ∙ rw (ne-eqb (L .next + 1) 0 (λ z. omega arith), add-zero, ← ex, ← fits) e);
+      }
+
+      -- it has no room for the task, or would not improve
+      pub core-unfit : not r ≡ true → Looked J L (L .next + 1) false
+      core-unfit e = core-looked (rw (not-true r e))
+
+      module _ (may : not r ≡ false) where
+        -- it is empty, and so is a lower core
+        pub core-passed : getD (L .loads) (L .next + 1) 0 ≡ 0 → {e : Bool} → e ≡ someZero (L .loads) (L .next)
+            → e ≡ true → Looked J L (L .next + 1) false
+        core-passed z f t = core-looked (rw (not-false r may, tried-is f, eq-eqb _ 0 z, t))
+
+        -- it is the lowest empty core, or not empty
+        pub core-lowest : {e : Bool} → e ≡ someZero (L .loads) (L .next)
+            → e ≡ false → Looked J L (L .next + 1) true
+        core-lowest f t = core-looked (rw (not-false r may, tried-is f, t, and-false))
+
+        pub core-used : (getD (L .loads) (L .next + 1) 0 ≡ 0 → ⊥) → Looked J L (L .next + 1) true
+        core-used n = core-looked (rw (not-false r may, tried-is refl, ne-eqb _ 0 n))
+
+  none-tried : tried (problem J) node 0 ≡ true
+  unfolding tried someEmpty
+  none-tried = rw and-false
 
   -- leaving the task out is looked at
   pub none-looked : J .cores ≤ L .next → L .next ≤ J .cores → {over : ℕ} → over ≡ excess (problem J) → {r : Bool}
@@ -70,7 +112,7 @@ module _ {J : Job} {L : Locals} (s : Walking J L) where
     state = s;
     within = k;
     choice-is = let q : L .next ≡ J .cores = omega arith in rw q (sym (choice-none (J .cores)));
-    tested = rw (test-is 0, ← ex) e;
+    tested = rw (test-is 0, ← ex, none-tried, and-true) e;
   }
 
   -- no choice is left

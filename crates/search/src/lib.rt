@@ -38,6 +38,11 @@ fn walk(demands: [u32; 16], n: u8, m: u32, h: u32, total: u32, excess: u32, limi
                     next += 1;
                     continue 'choices;
                 }
+                // An empty core is passed over where a lower one is empty too.
+                if loads[next as usize + 1] == 0 && moves::some_empty(&loads, next) {
+                    next += 1;
+                    continue 'choices;
+                }
                 c = next + 1;
             } else if m < next
                 || !moves::improves(loads[0] + demands[depth as usize], excess, bound)

@@ -11,7 +11,7 @@ use Rattle.numbers.proofs.BoolLaws.{cond-le}
 use native.Mathlib.Nat.{le-refl}
 use Rattle.search.proofs.State.{locals, Walking, walk-start, walk-done, walk-back, one-less, last-small, last-enough}
 use Rattle.search.proofs.State.{depth-small, load-small, Looked, choice-small, enters, skips, stops, stores, descends}
-use Rattle.search.proofs.Choices.{job, total-small, ranges-fixed, core-looked, none-looked, past}
+use Rattle.search.proofs.Choices.{job, total-small, ranges-fixed, core-unfit, core-passed, core-lowest, core-used, none-looked, past}
 use Rattle.search.proofs.walk.Statement.{statement}
 use Rattle.search.proofs.walk.Tie as tie
 
@@ -41,12 +41,16 @@ entering c =
     let l = c .before .choices in
     let e = c .before .before .before .pre .excess-is in
     ⊎-elim
-    (λ w. rw (w .3) (enters (core-looked (l .inv .0) (w .0 .taken) e (w .1 .ensures)) (w .2 .left)))
+    (λ w. let core = l .inv .0 in
+    rw (w .4) (⊎-elim
+    (λ v. core-lowest core (w .0 .taken) e (w .1 .ensures) (w .2 .left) (v .2 .ensures) (v .3 .left))
+    (λ v. core-used core (w .0 .taken) e (w .1 .ensures) (w .2 .left) (v .left))
+    (w .3 .came)))
     (λ w. rw (w .4) (enters (none-looked (l .inv .0) (w .0 .left) (w .1 .left) e (w .2 .ensures)) (w .3 .left)))
     (c .if1 .came)
 
 -- no choice is left, where the ways to that have met
-none-left : (c : tie.Joined3 Inv-choices μ-choices Inv-tasks μ-tasks)
+none-left : (c : tie.Joined5 Inv-choices μ-choices Inv-tasks μ-tasks)
     → let a = c .before .before .before .before .args in
     let l = c .before .before .choices in
     Walking (job (a .t1) (a .n) (a .m) (a .h) (a .limit))
@@ -57,7 +61,7 @@ none-left c =
     ⊎-elim
     (λ w. past (l .inv .0) (omega (arith, l .inv .0 .next-within, w .taken)))
     (λ w. past (skips (none-looked (l .inv .0) (c .before .if1 .left) (w .0 .left) e (w .1 .ensures)) (w .2 .taken)) (omega (arith, c .before .if1 .left, w .0 .left)))
-    (c .if3 .came)
+    (c .if5 .came)
 
 add-bound : tie.Need-add-bound Inv-choices μ-choices Inv-tasks μ-tasks
 add-bound c = omega (arith, c .pre .total-is, total-small (c .pre .ranges))
@@ -75,23 +79,30 @@ choices-again : tie.Need-choices-again Inv-choices μ-choices Inv-tasks μ-tasks
 choices-again c =
     let l = c .before .before .before .choices in
     let e = c .before .before .before .before .before .pre .excess-is in
-    (skips (core-looked (l .inv .0) (c .before .before .if1 .taken) e (c .before .enters-core .ensures)) (c .if2 .taken), l .inv .1, l .inv .2, l .inv .3)
+    (skips (core-unfit (l .inv .0) (c .before .before .if1 .taken) e (c .before .enters-core .ensures) (c .if2 .taken)) refl, l .inv .1, l .inv .2, l .inv .3)
+
+choices-again-2 : tie.Need-choices-again-2 Inv-choices μ-choices Inv-tasks μ-tasks
+choices-again-2 c =
+    let g = c .before .before .before .before .before in
+    let l = g .before .before .choices in
+    let e = g .before .before .before .before .pre .excess-is in
+    (skips (core-passed (l .inv .0) (g .before .if1 .taken) e (g .enters-core .ensures) (c .before .before .before .before .if2 .left) (c .before .before .before .if3 .taken) (c .before .some-empty .ensures) (c .if4 .taken)) refl, l .inv .1, l .inv .2, l .inv .3)
 
 add-improves : tie.Need-add-improves Inv-choices μ-choices Inv-tasks μ-tasks
 add-improves c = omega (arith, load-small (c .before .before .choices .inv .0) 0)
 
 cast-last-2 : tie.Need-cast-last-2 Inv-choices μ-choices Inv-tasks μ-tasks
-cast-last-2 c = omega (arith, last-small (c .before .before .before .choices .inv .0) (one-less (c .if5 .left)) refl)
+cast-last-2 c = omega (arith, last-small (c .before .before .before .choices .inv .0) (one-less (c .if7 .left)) refl)
 
 with-less-requires : tie.Need-with-less-requires Inv-choices μ-choices Inv-tasks μ-tasks
 with-less-requires c κs =
     let s = c .before .before .before .choices .inv .0 in
-    (last-small s (one-less (c .if5 .left)) refl, last-enough s (one-less (c .if5 .left)) refl)
+    (last-small s (one-less (c .if7 .left)) refl, last-enough s (one-less (c .if7 .left)) refl)
 
 tasks-again : tie.Need-tasks-again Inv-choices μ-choices Inv-tasks μ-tasks
 tasks-again c =
     let g = c .before .before .before in
-    let f = one-less (c .before .before .if5 .left) in
+    let f = one-less (c .before .before .if7 .left) in
     (walk-back (none-left g) f refl (omega arith) (c .before .with-less .ensures) (c .tried-by .ensures), g .before .before .choices .inv .3)
 
 cast-with-choice : tie.Need-cast-with-choice Inv-choices μ-choices Inv-tasks μ-tasks
@@ -109,7 +120,7 @@ with-more-requires c κs =
 tasks-again-2 : tie.Need-tasks-again-2 Inv-choices μ-choices Inv-tasks μ-tasks
 tasks-again-2 c =
     let g = c .before .before .before .before .before in
-    (descends (entering g) (c .before .before .before .before .if6 .left) (c .before .if7 .taken) (c .before .before .with-choice .ensures) (c .with-more .ensures), g .before .choices .inv .3)
+    (descends (entering g) (c .before .before .before .before .if8 .left) (c .before .if9 .taken) (c .before .before .with-choice .ensures) (c .with-more .ensures), g .before .choices .inv .3)
 
 add-rejected : tie.Need-add-rejected Inv-choices μ-choices Inv-tasks μ-tasks
 add-rejected c =
@@ -117,27 +128,30 @@ add-rejected c =
     let l = g .before .choices in
     omega (arith, load-small (l .inv .0) 0, c .pick .ensures, cond-le (eqb (g .if1 .c) 0) (getD (g .before .before .before .args .t1) (l .depth) 0) _ (le-refl _))
 
-choices-again-2 : tie.Need-choices-again-2 Inv-choices μ-choices Inv-tasks μ-tasks
-choices-again-2 c =
+choices-again-3 : tie.Need-choices-again-3 Inv-choices μ-choices Inv-tasks μ-tasks
+choices-again-3 c =
     let g = c .before .before .before .before .before in
     let t = g .before .choices .inv in
-    (stores (entering g) (c .before .before .before .before .if6 .left) (c .before .if7 .left) (c .before .before .with-choice .ensures) (c .pick .ensures), t .1, omega arith, t .3)
+    (stores (entering g) (c .before .before .before .before .if8 .left) (c .before .if9 .left) (c .before .before .with-choice .ensures) (c .pick .ensures), t .1, omega arith, t .3)
 
 returns : tie.Need-returns Inv-choices μ-choices Inv-tasks μ-tasks
-returns c = rw (c .before .before .before .choices .inv .3) (walk-done (none-left (c .before)) (omega arith) (c .if5 .taken))
+returns c = rw (c .before .before .before .choices .inv .3) (walk-done (none-left (c .before)) (omega arith) (c .if7 .taken))
 
 returns-2 : tie.Need-returns-2 Inv-choices μ-choices Inv-tasks μ-tasks
-returns-2 c = stops (entering (c .before)) (c .if6 .taken)
+returns-2 c = stops (entering (c .before)) (c .if8 .taken)
 
 pub walk-spec : {M : Type 1} → statement M
 walk-spec =
-    tie.close (tie.spec Inv-choices μ-choices Inv-tasks μ-tasks add-bound tasks-holds (λ c. search needs) (λ c. search needs)
-    (λ c. search needs) (λ c. search needs) (λ c. search needs) (λ c. search needs) (λ c. search needs) (λ c. search needs)
-    add-load-2 (λ c. search needs) (λ c κs. search needs) (λ c. search needs) (λ c. search needs) choices-again
-    (λ c. search needs) (λ c. search needs) (λ c. search needs) (λ c. search needs) (λ c. search needs) add-improves
-    (λ c κs. search needs) (λ c. search needs) (λ c. search needs) (λ c. search needs) cast-last-2 (λ c. search needs)
-    (λ c. search needs) (λ c. search needs) with-less-requires (λ c κs. search needs) (λ c. search needs) tasks-again
-    (λ c. search needs) cast-with-choice with-choice-requires (λ c. search needs) (λ c. search needs) (λ c. search needs)
-    (λ c. search needs) with-more-requires (λ c. search needs) (λ c. search needs) tasks-again-2 (λ c. search needs)
-    (λ c. search needs) (λ c. search needs) (λ c. search needs) (λ c κs. search needs) add-rejected (λ c. search needs)
-    (λ c. search needs) choices-again-2 returns returns-2)
+    tie.close (tie.spec Inv-choices μ-choices Inv-tasks μ-tasks add-bound tasks-holds (λ c. search needs)
+    (λ c. search needs) (λ c. search needs) (λ c. search needs) (λ c. search needs) (λ c. search needs)
+    (λ c. search needs) (λ c. search needs) add-load-2 (λ c. search needs) (λ c κs. search needs)
+    (λ c. search needs) (λ c. search needs) choices-again (λ c. search needs) (λ c. search needs)
+    (λ c. search needs) (λ c. search needs) (λ c κs. search needs) (λ c. search needs) (λ c. search needs)
+    choices-again-2 (λ c. search needs) (λ c. search needs) (λ c. search needs) (λ c. search needs)
+    (λ c. search needs) add-improves (λ c κs. search needs) (λ c. search needs) (λ c. search needs)
+    (λ c. search needs) cast-last-2 (λ c. search needs) (λ c. search needs) (λ c. search needs) with-less-requires
+    (λ c κs. search needs) (λ c. search needs) tasks-again (λ c. search needs) cast-with-choice with-choice-requires
+    (λ c. search needs) (λ c. search needs) (λ c. search needs) (λ c. search needs) with-more-requires
+    (λ c. search needs) (λ c. omega arith) tasks-again-2 (λ c. search needs) (λ c. search needs) (λ c. search needs)
+    (λ c. search needs) (λ c κs. search needs) add-rejected (λ c. search needs) (λ c. omega arith) choices-again-3
+    returns returns-2)
