@@ -13,6 +13,7 @@ enum { GUARD = 32, FILL = 0xA5 };
 #define USUAL_LIMIT 1000000u
 
 static unsigned long checks, failed, seen[128]; /* seen: random tables by code */
+static unsigned long ample; /* random tables planned with their ceiling as the limit */
 
 static void check(int holds, const char *what, unsigned long which)
 {
@@ -100,6 +101,7 @@ static void check_rows(void)
         {"lower number", 2, 2, {10, 10}, {6, 6}, USUAL_LIMIT, 0, {1, 2}},
         {"greater weight", 2, 2, {10, 1000}, {5, 600}, USUAL_LIMIT, 0, {2, 1}},
         {"excess", 5, 2, {10, 10, 10, 10, 10}, {5, 5, 5, 5, 1}, 5, 1, {1, 1, 2, 2, 0}},
+        {"empty cores", 5, 4, {10, 10, 10, 10, 10}, {6, 6, 6, 6, 6}, 5, 1, {1, 2, 3, 4, 0}},
         {"excess spent", 5, 2, {10, 10, 10, 10, 10}, {5, 5, 5, 5, 1}, 4, 2, {0, 0, 0, 0, 0}},
     };
     for (size_t k = 0; k < sizeof rows / sizeof rows[0]; k++) {
@@ -191,13 +193,26 @@ static void check_refusals(void)
     check(millplan_plan(NULL, 0, USUAL_LIMIT, NULL, 0) == 101, "1: nothing at all", 0);
 }
 
+/* The step ceiling: the sum of the first n products of (the smaller of j and m, plus 1). */
+static uint64_t plain_ceiling(unsigned n, unsigned m)
+{
+    uint64_t sum = 0, product = 1;
+    for (unsigned j = 1; j <= n; j++) {
+        product *= (j < m ? j : m) + 1;
+        sum += product;
+    }
+    return sum;
+}
+
 /* Random tables, every fourth with damage: the code and every byte are the plain planner's. */
 
 static void check_random(unsigned long which)
 {
     const struct table t = random_table();
     const unsigned n = t.bytes[0] % 17;
-    const uint32_t limits[] = {below(2 * n + 1), below(100), 1 + below(5000), 20000};
+    const uint64_t ceiling = plain_ceiling(n, t.bytes[1] % 5);
+    const uint32_t most = ceiling < 20000 ? (uint32_t)ceiling : 20000;
+    const uint32_t limits[] = {below(2 * n + 1), below(100), 1 + below(5000), most};
     const uint32_t limit = limits[below(4)];
     const size_t plan_len = below(10) == 0 ? below(n + 1) : n + below(4);
     uint8_t cores[MOST_TASKS] = {0};
@@ -209,6 +224,10 @@ static void check_random(unsigned long which)
     check(r.code == code && r.clean && memcmp(r.plan, cores, written) == 0
               && all_fill(r.plan + written, sizeof r.plan - written),
           "random table", which);
+    if (code < 100 && limit >= ceiling) {
+        ample++;
+        check(r.code != 2, "limit at the ceiling", which);
+    }
 }
 
 int main(int argc, char **argv)
@@ -222,6 +241,7 @@ int main(int argc, char **argv)
         check_random(k);
     for (unsigned code = 0; code <= 108; code++)
         check(tables < 10000 || (code > 2 && code <= 100) || seen[code] > 0, "code drawn", code);
+    check(tables < 10000 || ample > tables / 10, "limits at the ceiling drawn", ample);
 
     printf("%lu checks, %lu failed\n", checks, failed);
     return failed == 0 ? 0 : 1;

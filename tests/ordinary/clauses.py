@@ -1,5 +1,5 @@
-"""Holds the quick plan of the program `cases` to its exact plan, by the program's own lines alone:
-nothing here knows how either of them is made.
+"""Holds the quick plan and the step ceiling of the program `cases` to its exact plan, by the
+program's own lines alone: nothing here knows how any of them is made.
 
 usage: python3 clauses.py SEED COUNT PROGRAM
 """
@@ -10,16 +10,17 @@ from collections import namedtuple
 from random import Random
 
 import frame
-from calls import plan, quick
+from calls import ceiling, plan, quick
 from plans import ALL, SPENT
 from samples import (LARGEST_WORD, damaged, level_table, packed_table, random_table,
                      uneven_table)
 
-# A complete walk of so many tasks has at most 5 + 25 + .. + 5^8 steps, not half a million.
+# A complete walk of so many tasks has at most 93,752 steps.
 MOST_COMPLETED = 8
 SHORT_WALK = 3000
 
 QuickLine = namedtuple("QuickLine", "number place rejected placement")
+CeilingLine = namedtuple("CeilingLine", "number place ceiling")
 ExactLine = namedtuple("ExactLine", "number place verdict rejected steps placement")
 
 
@@ -27,36 +28,44 @@ def main():
     seed, count, program = sys.argv[1:]
     rng = Random(int(seed))
     tables = [draw(rng) for _ in range(int(count))]
-    limits = [draw_limits(rng, table) for table in tables]
-    data = b"".join(map(cases_of, tables, limits))
-    printed = subprocess.run([program], input=data, capture_output=True, check=True).stdout
-    lines = printed.decode().splitlines()
-    if len(lines) != len(tables) + sum(map(len, limits)):
-        sys.exit(f"cases ends after {len(lines)} lines")
+    heads = rows_of(program, b"".join(map(head_of, tables)), 2 * len(tables))
+    quicks = [QuickLine(*split(row, 3)) for row in heads[::2]]
+    ceilings = [CeilingLine(*row) for row in heads[1::2]]
+    limits = [draw_limits(rng, table, line.ceiling) for table, line in zip(tables, ceilings)]
+    plans = iter(rows_of(program, b"".join(map(plans_of, tables, limits)), sum(map(len, limits))))
 
-    rows = ([int(word) for word in line.split()] for line in lines)
-    refused = placed = bettered = 0
-    for table, row in zip(tables, limits):
-        line = QuickLine(*split(next(rows), 3))
-        exact = {limit: ExactLine(*split(next(rows), 5)) for limit in row}
-        for clause, holds in clauses(table, line, exact).items():
+    refused = placed = bettered = ample = 0
+    for table, line, most, row in zip(tables, quicks, ceilings, limits):
+        exact = {limit: ExactLine(*split(next(plans), 5)) for limit in row}
+        for clause, holds in clauses(table, line, most, exact).items():
             if not holds:
-                sys.exit(f"it does not hold that {clause}, table {table.hex()}:\n{line}\n{exact}")
+                sys.exit(f"it does not hold that {clause}, table {table.hex()}:\n"
+                         f"{line}\n{most}\n{exact}")
         refused += line.number > 0
         placed += line.number == 0 and line.rejected == 0
         bettered += min(answer.rejected for answer in exact.values()) < line.rejected
+        ample += line.number == 0 and max(row) >= most.ceiling
     print(f"{len(tables)} tables, {refused} refused; of the quick plans {placed} reject nothing, "
-          f"{bettered} more than the exact plan")
+          f"{bettered} more than the exact plan; {ample} planned with the ceiling as the limit")
 
 
-def clauses(table, line, exact):
-    """What is said of a table's quick plan and its exact plans by their limits."""
+def rows_of(program, data, count):
+    """The numbers of so many lines that the program prints."""
+    printed = subprocess.run([program], input=data, capture_output=True, check=True).stdout
+    rows = [[int(word) for word in line.split()] for line in printed.decode().splitlines()]
+    if len(rows) != count:
+        sys.exit(f"cases ends after {len(rows)} lines")
+    return rows
+
+
+def clauses(table, line, most, exact):
+    """What is said of a table's quick plan, its step ceiling and its exact plans by their limits."""
     if line.number > 0:
         nothing = [0] * 16
         return {
             "a refused quick plan is zeros": line[2:] == (0, nothing),
-            "both are refused alike": all(answer == (*line[:2], 0, 0, 0, nothing)
-                                          for answer in exact.values()),
+            "all are refused alike": most == (*line[:2], 0) and all(
+                answer == (*line[:2], 0, 0, 0, nothing) for answer in exact.values()),
         }
     n = table[0]
     return {
@@ -70,6 +79,10 @@ def clauses(table, line, exact):
             answer.rejected <= line.rejected for limit, answer in exact.items() if limit >= n),
         "the exact plan within n steps is the quick plan":
             (exact[n].rejected, exact[n].placement) == (line.rejected, line.placement),
+        "no walk is longer than the ceiling": all(
+            answer.steps <= most.ceiling for answer in exact.values()),
+        "with a limit at or above the ceiling no exact plan is spent": all(
+            answer.verdict != SPENT for limit, answer in exact.items() if limit >= most.ceiling),
     }
 
 
@@ -81,17 +94,22 @@ def draw(rng):
     return damaged(rng, table) if rng.randrange(8) == 0 else table
 
 
-def draw_limits(rng, table):
-    """Limits below n, n, a little above, and one at which most walks are complete."""
+def draw_limits(rng, table, ceiling):
+    """Limits below n, n, a little above, and for few tasks the ceiling and the largest."""
     n = table[0] if table else 0
-    ample = LARGEST_WORD if n <= MOST_COMPLETED else SHORT_WALK
-    return sorted({rng.randint(0, n), n, n + rng.randint(1, 2 * n + 1), ample})
+    ample = {ceiling, LARGEST_WORD} if n <= MOST_COMPLETED else {SHORT_WALK}
+    return sorted({rng.randint(0, n), n, n + rng.randint(1, 2 * n + 1)} | ample)
 
 
-def cases_of(table, limits):
-    """The bytes of the quick plan's case and of the exact plan's for each limit."""
-    return frame.case(quick.CODE, quick.contents(table)) + b"".join(
-        frame.case(plan.CODE, plan.contents(table, limit)) for limit in limits)
+def head_of(table):
+    """The bytes of the quick plan's case and of the step ceiling's."""
+    return (frame.case(quick.CODE, quick.contents(table))
+            + frame.case(ceiling.CODE, ceiling.contents(table)))
+
+
+def plans_of(table, limits):
+    """The bytes of the exact plan's case for each limit."""
+    return b"".join(frame.case(plan.CODE, plan.contents(table, limit)) for limit in limits)
 
 
 def split(row, single):

@@ -8,7 +8,7 @@ import subprocess
 import sys
 
 import frame
-from calls import core, plan, quick, read, tick
+from calls import ceiling, core, plan, quick, read, tick
 from samples import LARGEST_WORD, table_of
 from ticks import EMPTY, Slot
 
@@ -25,6 +25,7 @@ SMALL = [
     (core, (ROW_C, [1, 0, 1], 1, [])),
     (tick, ([Slot(4, 2, 0, 1)] + [EMPTY] * 15, FULL)),
     (quick, (table_of(2, [10] * 6, [5, 4, 3, 3, 3, 2]),)),
+    (ceiling, (table_of(4, [10] * 5, [6] * 5),)),
 ]
 GOOD = frame.case(read.CODE, [ROW_C])
 
@@ -78,7 +79,7 @@ def wrong_lengths():
                 data = frame.case(call.CODE, contents[:k] + [other] + contents[k + 1:])
                 yield data + GOOD, standing(call, given, k)
     longest = bytes([16, 4]) + bytes(LONGEST - 2)
-    for call in (read, quick):
+    for call in (read, quick, ceiling):
         yield frame.case(call.CODE, [longest]) + GOOD, (standing(call, (longest,), 1)
                                                         + standing(read, (ROW_C,), 1))
 

@@ -1,5 +1,6 @@
 """Holds the ordinary programs against rows a to l of the scope paper, and rows worked by hand."""
 
+from ceilings import most_steps, step_ceiling
 from samples import LARGEST_WORD, table_of
 from plans import ALL, SHORT, SPENT, plan
 from quick_plans import quick_plan
@@ -29,6 +30,7 @@ def runs(all_requests, table=ROW_C):
 
 TENS = [10] * 3
 DIFFERING = 2, [10] * 6, [5, 4, 3, 3, 3, 2]
+SEVEN = 3, [10] * 7, [9, 8, 6, 6, 5, 4, 3]
 ROWS = {
     "a": planned(1, [10, 10], [3, 7]) == (ALL, [1, 1], 0, 2),
     "b": planned(1, [10, 10], [3, 8]) == (SHORT, [0, 1], 3, 2),
@@ -59,6 +61,19 @@ ROWS = {
     "differing": fitted(*DIFFERING) == ([1, 1, 2, 2, 2, 0], 2)
                  and planned(*DIFFERING) == (ALL, [1, 2, 1, 2, 2, 1], 0, 11),
     "k, quick": quick_plan(table_of(1, [1000, 1001], [1, 1])) == (7, 2, 0, [0] * 16),
+    "empty cores": planned(4, [10] * 5, [6] * 5) == (SHORT, [1, 2, 3, 4, 0], 6, 5),
+    "seven": planned(*SEVEN, 20) == (SPENT, [1, 0, 2, 3, 0, 2, 3], 13, 20)
+             and planned(*SEVEN, 24) == (SHORT, [1, 0, 2, 3, 0, 2, 3], 13, 24),
+    "ceilings": [step_ceiling(table_of(*table)).ceiling for table in
+                 ((4, [10] * 5, [6] * 5), SEVEN, (1, TENS, [7, 6, 4]), DIFFERING)]
+                == [752, 8192, 14, 728],
+    "ceilings of 4, 8, 12 and 16": [[most_steps(n, m) for n in (4, 8, 12, 16)]
+                                    for m in (1, 2, 3, 4)]
+                                   == [[30, 510, 8_190, 131_070],
+                                       [80, 6_560, 531_440, 43_046_720],
+                                       [128, 32_768, 8_388_608, 2_147_483_648],
+                                       [152, 93_752, 58_593_752, 36_621_093_752]],
+    "k, ceiling": step_ceiling(table_of(1, [1000, 1001], [1, 1])) == (7, 2, 0),
     "less": runs([[1] + FULL[1:]] * 3, table_of(1, [3], [2])) == [1, 0, 0],
 }
 

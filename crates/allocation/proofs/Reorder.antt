@@ -1,5 +1,5 @@
 -- Planning order and table order: the same loads, the same feasible placements, the same best plan.
-use Prim.Native.Nat.{ℕ, _<_}
+use Prim.Native.Nat.{ℕ, _≤_, _<_}
 use native.Mathlib.Omega.{arith}
 use mathlib.Core.Path.{_≡_, refl, sym, ap, _∙_, subst}
 use mathlib.Core.Bool.{true}
@@ -24,6 +24,13 @@ module _ (T : Problem) (order : List ℕ) (perm : Permutation (length (T .demand
   -- the tasks in planning order are as many
   pub inPlanningOrder-long : length (inPlanningOrder T order .demands) ≡ n
   inPlanningOrder-long = gather-long n order perm (T .demands)
+
+  -- and each demand is at least 1 where each is so in the table
+  pub gathered-positive : ((k : ℕ) → k < n → 1 ≤ getD (T .demands) k 0)
+      → (k : ℕ) → k < length (inPlanningOrder T order .demands) → 1 ≤ getD (inPlanningOrder T order .demands) k 0
+  gathered-positive h k l =
+      let b : k < length order = omega (arith, inPlanningOrder-long, order-long n order perm) in
+      rw (getD-gather order (T .demands) k b) (h (getD order k 0) (permutation-below n order perm k b))
 
   pub feasible-gather : (q : List ℕ) → Feasible T q → Feasible (inPlanningOrder T order) (gather order q)
   feasible-gather q f = record {

@@ -13,6 +13,7 @@ use Rattle.planning.specs.Order.{planningOrder}
 use Rattle.planner.specs.Plan.{verdictOutcome}
 use Rattle.planner.specs.declared.Allocation.{Allocation}
 use Rattle.quick.specs.declared.QuickPlan.{QuickPlan}
+use Rattle.ceiling.specs.declared.StepCeiling.{StepCeiling}
 use Rattle.edf.specs.declared.Slot.{Slot}
 use Rattle.start.specs.declared.Started.{Started}
 use Rattle.runner.specs.declared.Ticked.{Ticked}
@@ -22,7 +23,7 @@ use Rattle.text.specs.Joined.{joined, fields}
 use Rattle.text.specs.Shown.{shown, Appended}
 use Rattle.text.specs.declared.Text.{Text}
 use Rattle.text.proofs.ClipLaws.{append-both, append-within, append-whole}
-use Rattle.cases.specs.Lines.{outcomeFields, slotFields, sizeFields, taskNumbers, taskFields, tableLine, verdictNumber, planLine, coreLine, tickLine, recordLine, quickLine}
+use Rattle.cases.specs.Lines.{outcomeFields, slotFields, sizeFields, taskNumbers, taskFields, tableLine, verdictNumber, planLine, coreLine, tickLine, recordLine, quickLine, ceilingLine}
 
 -- number and place
 module _ {t r : Text} {o : Outcome} where
@@ -73,6 +74,12 @@ pub quick-whole : {t a b d line : Text} (plan : QuickPlan) {o : Outcome} → sho
     → shown line ≡ quickLine plan
 unfolding quickLine
 quick-whole plan e i p q u v = append-whole e (append-both (append-both (append-both (rw (sym i) at p) q) u) v) (omega arith)
+
+-- a step ceiling
+pub ceiling-whole : {t a b line : Text} (answer : StepCeiling) {o : Outcome} → shown t ≡ [] → answer .outcome ≡ o → Appended t (outcomeFields o) 41 a
+    → Appended a (field (answer .ceiling)) 21 b → Appended b (ascii "\n") 1 line → shown line ≡ ceilingLine answer
+unfolding ceilingLine
+ceiling-whole answer e i p q u = append-whole e (append-both (append-both (rw (sym i) at p) q) u) (omega arith)
 
 -- a fresh core
 pub core-whole : {t a b line : Text} (s : Started) {o : Outcome} → shown t ≡ [] → s .outcome ≡ o → Appended t (outcomeFields o) 41 a

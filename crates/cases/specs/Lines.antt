@@ -15,6 +15,7 @@ use Rattle.planner.specs.declared.Allocation.{Allocation}
 use Rattle.planner.specs.declared.Verdict.{Verdict}
 use Rattle.planner.specs.declared.Verdict.the-variants.{All, Short, Spent, Refused}
 use Rattle.quick.specs.declared.QuickPlan.{QuickPlan}
+use Rattle.ceiling.specs.declared.StepCeiling.{StepCeiling}
 use Rattle.edf.specs.declared.Slot.{Slot}
 use Rattle.start.specs.declared.Started.{Started}
 use Rattle.runner.specs.declared.Ticked.{Ticked}
@@ -70,3 +71,7 @@ recordLine t = outcomeFields (t .outcome) ++ field (t .run) ++ field (t .late) +
 -- code 5: a quick plan
 unfoldable pub quickLine : QuickPlan → List ℕ
 quickLine p = outcomeFields (p .outcome) ++ field (p .rejected) ++ fields (p .placement) ++ ascii "\n"
+
+-- code 6: a step ceiling
+unfoldable pub ceilingLine : StepCeiling → List ℕ
+ceilingLine a = outcomeFields (a .outcome) ++ field (a .ceiling) ++ ascii "\n"

@@ -1,6 +1,7 @@
 // One program over the library for tests from outside: it runs the cases on standard input and prints their lines.
 // A case is its code in one byte, then its blocks. Each code has a file, which names its blocks.
 mod blocks;
+mod ceilings;
 mod cores;
 mod lines;
 mod plans;
@@ -38,6 +39,12 @@ fn run_plan(table: &[u8]) -> bool {
 fn run_quick(table: &[u8]) -> bool {
     let plan = quick::quick_plan(table);
     console::show(quicks::quick_line(plan)).whole
+}
+
+// Prints the step ceiling's line; false where the output fails.
+fn run_ceiling(table: &[u8]) -> bool {
+    let answer = ceiling::step_ceiling(table);
+    console::show(ceilings::ceiling_line(answer)).whole
 }
 
 // Reads the requests of each tick, and if the core was accepted makes the tick and prints its line; false where the case is not whole
@@ -121,6 +128,7 @@ fn run_on(code: u8, table: &[u8]) -> bool {
         2 => run_plan(table),
         3 => run_core(table),
         5 => run_quick(table),
+        6 => run_ceiling(table),
         _ => false,
     }
 }

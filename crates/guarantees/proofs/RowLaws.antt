@@ -6,7 +6,7 @@ use Rattle.numbers.specs.Multiples.{euclid, gcd, lcm, lcms}
 use Rattle.numbers.specs.Reorder.{position, scatter}
 use Rattle.numbers.specs.Rows.{tab, upTo, row}
 use Rattle.numbers.specs.Sorting.{insert, sorted}
-use Rattle.numbers.specs.Sums.{sumOver}
+use Rattle.numbers.specs.Sums.{sumOver, sumTo, productTo}
 use Rattle.refusal.specs.Tests.{_then_, refuseIf, refuseAt, inOrder}
 use Rattle.wire.specs.Bytes.{wordAt}
 use Rattle.taskset.specs.Demands.{multipleTo, hyperperiodOf, demandOf}
@@ -22,6 +22,7 @@ use Rattle.planner.specs.Problem.{tableProblem, orderOf}
 use Rattle.planner.specs.Plan.{verdictOf, allocationOf, planFor, refusedPlan, planBy, planOf, verdictOutcome}
 use Rattle.allocation.specs.FirstFit.{lowestFit, fitFrom, firstFit, tableFit}
 use Rattle.quick.specs.Quick.{quickPlacement, quickFor, refusedQuick, quickBy, quickOf}
+use Rattle.ceiling.specs.Ceiling.{stepCeiling, ceilingBy, ceilingOf}
 use Rattle.edf.specs.Slots.{slotTest, firstSlot}
 use Rattle.edf.specs.Tick.{owedFor, release, releaseAll, chosen, advanceAll, stepped, refusedTick, tick}
 use Rattle.edf.specs.Fresh.{freshSlot, freshSlots}
@@ -31,8 +32,8 @@ use Rattle.listing.specs.Lines.{refusalLine, sizesLine, taskLine, taskLines, ta
 use Rattle.listing.specs.Printed.{printed}
 use Rattle.report.specs.Output.{verdictWord, summaryLine, planLines, outputOf}
 use Rattle.quickreport.specs.Output.{quickSummary, quickLines, quickOutputOf}
-use Rattle.guarantees.specs.Rows.{quicks, more, rows, AllHold}
+use Rattle.guarantees.specs.Rows.{emptyCores, quicks, more, rows, AllHold}
 
 pub rows-hold : AllHold rows
-unfolding rows more quicks first firstFrom row tab upTo sumOver euclid gcd lcm lcms insert sorted position scatter demandOn _then_ refuseIf refuseAt inOrder wordAt fieldsOf multipleTo hyperperiodOf demandOf badPeriod badBudget exceeds tableOutcome taskSetOf acceptedReading readingBy readingOf precedes isEmpty someEmpty tried upFrom choices stepInto storedAfter boundAfter entered tryAll visit trace stored answer tableAnswer tableProblem orderOf verdictOf allocationOf planFor refusedPlan planBy planOf verdictOutcome slotTest firstSlot owedFor release releaseAll chosen advanceAll stepped refusedTick tick freshSlot freshSlots loadOf aboveAt refusedStart startBy placingOutcome startOutcome startOf front digitsBy decimal field refusalLine sizesLine taskLine taskLines tableLines verdictWord summaryLine planLines printed outputOf lowestFit fitFrom firstFit tableFit quickPlacement quickFor refusedQuick quickBy quickOf quickSummary quickLines quickOutputOf
-rows-hold = (refl, (refl, (refl, (refl, (refl, (refl, (refl, (refl, (refl, (refl, ((refl, refl), (refl, (refl, (refl, (refl, (refl, (refl, (refl, (refl, (refl, (refl, (refl, (refl, (refl, (refl, (refl, (refl, (refl, (refl, (refl, (refl, (refl, (refl, (refl, (refl, (refl, (refl, tt)))))))))))))))))))))))))))))))))))))
+unfolding rows more quicks emptyCores first firstFrom row tab upTo sumOver sumTo productTo euclid gcd lcm lcms insert sorted position scatter demandOn _then_ refuseIf refuseAt inOrder wordAt fieldsOf multipleTo hyperperiodOf demandOf badPeriod badBudget exceeds tableOutcome taskSetOf acceptedReading readingBy readingOf precedes isEmpty someEmpty tried upFrom choices stepInto storedAfter boundAfter entered tryAll visit trace stored answer tableAnswer tableProblem orderOf verdictOf allocationOf planFor refusedPlan planBy planOf verdictOutcome slotTest firstSlot owedFor release releaseAll chosen advanceAll stepped refusedTick tick freshSlot freshSlots loadOf aboveAt refusedStart startBy placingOutcome startOutcome startOf front digitsBy decimal field refusalLine sizesLine taskLine taskLines tableLines verdictWord summaryLine planLines printed outputOf lowestFit fitFrom firstFit tableFit quickPlacement quickFor refusedQuick quickBy quickOf stepCeiling ceilingBy ceilingOf quickSummary quickLines quickOutputOf
+rows-hold = (refl, (refl, (refl, (refl, (refl, (refl, (refl, (refl, (refl, (refl, ((refl, refl), (refl, (refl, (refl, (refl, (refl, (refl, (refl, (refl, (refl, (refl, (refl, (refl, (refl, (refl, (refl, (refl, (refl, (refl, (refl, (refl, (refl, (refl, (refl, (refl, (refl, (refl, (refl, (refl, (refl, (refl, (refl, (refl, (refl, (refl, (refl, (refl, tt)))))))))))))))))))))))))))))))))))))))))))))))

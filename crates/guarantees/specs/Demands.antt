@@ -1,5 +1,5 @@
 -- The three demands over the definitions that the public contracts equal. A promise that stands below is cited, not told again.
-use Prim.Native.Nat.{ℕ, _≤_, _<_}
+use Prim.Native.Nat.{ℕ, _+_, _≤_, _<_, min}
 use mathlib.Core.Path.{_≡_}
 use mathlib.Core.Bool.{cond}
 use mathlib.Core.List.{List}
@@ -7,7 +7,7 @@ use mathlib.Core.Logic.{_↔_, _≢_}
 use lib.Dec.{eqb}
 use lib.ListN.{length}
 use Rattle.numbers.specs.Rows.{entry}
-use Rattle.numbers.specs.Sums.{sumTo}
+use Rattle.numbers.specs.Sums.{sumTo, sumFromOne, productFromOne}
 use Rattle.refusal.specs.Causes.{numberIn}
 use Rattle.refusal.specs.Conditions.{First, Gives, Decides}
 use Rattle.refusal.specs.declared.Outcome.the-variants.{Accepted}
@@ -17,10 +17,12 @@ use Rattle.stored.specs.Form.{fieldsOf, taskCount, coreCount}
 use Rattle.stored.specs.Tests.{readingOf}
 use Rattle.stored.specs.Limits.{Valid, conditions}
 use Rattle.planner.specs.Plan.{planOf, verdictOutcome}
-use Rattle.planner.specs.Promise.{choicesOf, Safe, Promise, Plans}
+use Rattle.planner.specs.Promise.{choicesOf, walkOf, Safe, Promise, WalkRule, Plans}
 use Rattle.planner.specs.declared.Verdict.the-variants.{All, Spent}
 use Rattle.quick.specs.Quick.{quickOf}
 use Rattle.quick.specs.Promise.{Lowest, Descent, RefusedQuick}
+use Rattle.ceiling.specs.Ceiling.{ceilingOf}
+use Rattle.ceiling.specs.Promise.{Few}
 use Rattle.firmware.specs.Call.{codeFor, bufferAfter}
 use Rattle.firmware.specs.Service.{Answers}
 use Rattle.edf.specs.Guarantee.{TickGuarantee}
@@ -40,17 +42,19 @@ pub record DemandOne : Type 0 where
   -- A call outside its limits is refused with the number and place that the paper gives: those of the first condition that holds, and never otherwise.
   pub outside : (table : List ℕ) (limit number place : ℕ) → 1 ≤ number
       → Gives (verdictOutcome (planOf table limit .verdict)) number place ↔ First (conditions table) number place
-  -- So are the calls of the quick planner, of the reader, of a fresh core, of a tick (its answer r is any that the definition gives) and of the firmware.
+  -- So are the calls of the quick planner, of the step ceiling, of the reader, of a fresh core, of a tick (its answer r is any that the definition gives) and of the firmware.
   pub quick : (table : List ℕ) → Decides (Valid table) (conditions table) (quickOf table .outcome)
+  pub ceiling : (table : List ℕ) → Decides (Valid table) (conditions table) (ceilingOf table .outcome)
   pub reader : (table : List ℕ) → Decides (Valid table) (conditions table) (readingOf table .outcome)
   pub fresh : (table placement : List ℕ) (core : ℕ) → Decides (ValidStart table placement core) (startConditions table placement core) (startOf table placement core .outcome)
   pub tick : (core : Core) (requests : List ℕ) (r : Ticked) → tickAnswer r ≡ tickOf 0 (core .slots) requests
       → Decides (ValidRecord 0 (core .slots)) (recordConditions 0 (core .slots)) (r .outcome)
   pub entry : (table buffer : List ℕ) (limit : ℕ) → Answers table buffer (codeFor table limit (length buffer)) (bufferAfter table limit buffer)
-  -- A refused reading, plan, quick plan or fresh core is zeros, each with its own promise; a refused tick hands back its record, run 0 and late 0.
+  -- A refused reading, plan, quick plan, step ceiling or fresh core is zeros, each with its own promise; a refused tick hands back its record, run 0 and late 0.
   pub reads : (table : List ℕ) → Reads (readingOf table)
   pub plans : (table : List ℕ) (limit : ℕ) → Plans table limit (planOf table limit)
   pub quicks : (table : List ℕ) → numberIn (quickOf table .outcome) ≢ 0 → RefusedQuick (quickOf table)
+  pub ceilings : (table : List ℕ) → numberIn (ceilingOf table .outcome) ≢ 0 → ceilingOf table .ceiling ≡ 0
   pub starts : (table placement : List ℕ) (core : ℕ) → Starts table placement core (startOf table placement core)
   pub ticks : (core : Core) (requests : List ℕ) (r : Ticked) → tickAnswer r ≡ tickOf 0 (core .slots) requests → numberIn (r .outcome) ≢ 0 → PlainRefusal core r
   -- And lent memory then holds what it held before: tables and placements are lent to be read, and the firmware's plan buffer is unchanged.
@@ -79,6 +83,22 @@ pub record QuickDemand : Type 0 where
   pub no-less : (table : List ℕ) (limit : ℕ) → planOf table limit .verdict ≢ Spent → planOf table limit .rejected ≤ quickOf table .rejected
   -- More than was asked: with a limit of n the exact planner returns it, and with a larger one nothing that leaves out more, spent or not.
   pub descent : (table : List ℕ) → Descent table (quickOf table)
+
+-- The step ceiling, and the walk that it is for.
+pub record CeilingDemand : Type 0 where
+  -- A choice is entered by the walk exactly if its core's load stays at most one, it may still improve on the stored placement, and it
+  -- is not on an empty core while a lower-numbered core is empty too.
+  pub walk : (table : List ℕ) → Valid table → WalkRule (fieldsOf table)
+  -- The ceiling is the sum, over k from 1 to n, of the product over j from 1 to k of (the smaller of j and m, plus 1).
+  pub sum : (table : List ℕ) → Valid table
+      → ceilingOf table .ceiling ≡ sumFromOne (λ k. productFromOne (λ j. min j (coreCount table) + 1) k) (taskCount table)
+  -- The walk's steps never exceed it,
+  pub steps : (table : List ℕ) → Valid table → length (walkOf (fieldsOf table)) ≤ ceilingOf table .ceiling
+  -- and a limit at or above it never gives spent.
+  pub unspent : (table : List ℕ) (limit : ℕ) → ceilingOf table .ceiling ≤ limit → planOf table limit .verdict ≢ Spent
+  -- More than was asked: the usual limit of 1,000,000 suffices for any table of one core, of two and up to 12 tasks, of three and up
+  -- to 10, of four and up to 9.
+  pub usual : (table : List ℕ) → Valid table → Few table → planOf table 1000000 .verdict ≢ Spent
 
 -- A placement of a table: one entry for each task, a core of the table or 0.
 pub record ValidPlacement (table placement : List ℕ) : Type 0 where

@@ -13,6 +13,7 @@ use Rattle.planner.specs.Plan.{planOf, verdictOutcome}
 use Rattle.planner.specs.declared.Verdict.{Verdict}
 use Rattle.planner.specs.declared.Verdict.the-variants.{All, Short, Spent}
 use Rattle.quick.specs.Quick.{quickOf}
+use Rattle.ceiling.specs.Ceiling.{ceilingOf}
 use Rattle.quickreport.specs.Output.{quickOutputOf}
 use Rattle.edf.specs.declared.Slot.{Slot}
 use Rattle.edf.specs.Slots.{emptySlot}
@@ -23,12 +24,13 @@ use Rattle.text.specs.Ascii.{ascii}
 use Rattle.report.specs.Output.{outputOf}
 
 -- A row: a table's hyperperiod; a plan with its verdict, cores, left-out demand and steps; a quick plan with its cores and left-out demand;
--- a refusal with its number and place; the tasks run by the ticks of a fresh core; one tick of a given record, with the task run, the
+-- a step ceiling; a refusal with its number and place; the tasks run by the ticks of a fresh core; one tick of a given record, with the task run, the
 -- late task and the next record; the whole output of the program, and that of the quick one.
 pub data Row : Type 0 where
   frames : List ℕ → ℕ → Row
   plans : List ℕ → ℕ → Verdict → List ℕ → ℕ → ℕ → Row
   quick : List ℕ → List ℕ → ℕ → Row
+  ceilings : List ℕ → ℕ → Row
   refuses : List ℕ → ℕ → ℕ → ℕ → Row
   ticks : List ℕ → List ℕ → ℕ → List (List ℕ) → List ℕ → Row
   tickOnce : List Slot → List ℕ → ℕ → ℕ → List Slot → Row
@@ -40,6 +42,7 @@ Holds (frames bytes hyperperiod) = readingOf bytes .tasks .hyperperiod ≡ hyper
 Holds (plans bytes limit verdict cores rejected steps) =
     planOf bytes limit ≡ record { verdict = verdict; placement = row 0 (length cores) (entry cores); rejected = rejected; steps = steps }
 Holds (quick bytes cores rejected) = quickOf bytes ≡ record { outcome = Accepted; placement = row 0 (length cores) (entry cores); rejected = rejected }
+Holds (ceilings bytes ceiling) = ceilingOf bytes ≡ record { outcome = Accepted; ceiling = ceiling }
 Holds (refuses bytes limit number place) = Gives (verdictOutcome (planOf bytes limit .verdict)) number place
 Holds (ticks bytes placement core requests ran) = runs (ticked 0 (startOf bytes placement core .core .slots) requests) ≡ ran
 Holds (tickOnce slots requests run late next) = tick 0 slots requests ≡ record { refusal = 0; place = 0; slots = next; run = run; late = late }
@@ -69,6 +72,13 @@ packed = tableOf 2 (10 ∷ 10 ∷ 10 ∷ 10 ∷ 10 ∷ 10 ∷ []) (5 ∷ 4 ∷ 3
 abbrev pub crowded : List ℕ
 crowded = tableOf 1 (5 ∷ 10 ∷ []) (2 ∷ 7 ∷ [])
 
+-- five tasks of which no two fit together, on four cores; seven tasks on three
+abbrev pub five : List ℕ
+five = tableOf 4 (10 ∷ 10 ∷ 10 ∷ 10 ∷ 10 ∷ []) (6 ∷ 6 ∷ 6 ∷ 6 ∷ 6 ∷ [])
+
+abbrev pub seven : List ℕ
+seven = tableOf 3 (10 ∷ 10 ∷ 10 ∷ 10 ∷ 10 ∷ 10 ∷ 10 ∷ []) (9 ∷ 8 ∷ 6 ∷ 6 ∷ 5 ∷ 4 ∷ 3 ∷ [])
+
 -- sixteen requests: full ones, and the same with none from task 1
 abbrev pub full : List ℕ
 full = replicate 16 4294967295
@@ -82,6 +92,23 @@ slot period budget until remaining = record { period = period; budget = budget; 
 
 abbrev pub front : List Slot → List Slot
 front slots = slots ++ replicate 13 emptySlot
+
+-- Empty cores. Five tasks of which no two fit together, on four cores: 5 steps, where 65 are made if each empty core is tried. Seven
+-- tasks on three cores: 24 steps (110), of which the 20th stores a better placement; then one step less, and the steps that are enough.
+-- Step ceilings: of both tables, of the listing, of row d's table, and of sixteen tasks on four cores, which no limit reaches.
+unfoldable pub emptyCores : List Row
+emptyCores =
+    plans five 1000000 Short (1 ∷ 2 ∷ 3 ∷ 4 ∷ 0 ∷ []) 6 5
+    ∷ plans seven 19 Spent (1 ∷ 2 ∷ 3 ∷ 0 ∷ 0 ∷ 3 ∷ 0 ∷ []) 14 19
+    ∷ plans seven 20 Spent (1 ∷ 0 ∷ 2 ∷ 3 ∷ 0 ∷ 2 ∷ 3 ∷ []) 13 20
+    ∷ plans seven 24 Short (1 ∷ 0 ∷ 2 ∷ 3 ∷ 0 ∷ 2 ∷ 3 ∷ []) 13 24
+    ∷ prints five "table 5 4 10\n1 10 6 1\n2 10 6 2\n3 10 6 3\n4 10 6 4\n5 10 6 0\nshort 6 5\n"
+    ∷ ceilings five 752
+    ∷ ceilings seven 8192
+    ∷ ceilings listing 14
+    ∷ ceilings rowD 242
+    ∷ ceilings (tableOf 4 (replicate 16 10) (replicate 16 1)) 36621093752
+    ∷ []
 
 -- Quick plans. Row d's table, where first fit places all; six tasks that fill two cores, where first fit leaves out the last and the exact
 -- plan nothing; two that fill a core exactly; the listing, where first fit leaves out more than the exact plan; the request's order, by which
@@ -98,7 +125,7 @@ quicks =
     ∷ printsQuick crowded "table 2 1 10\n1 5 2 0\n2 10 7 1\nquick 4\n"
     ∷ prints crowded "table 2 1 10\n1 5 2 0\n2 10 7 1\nshort 4 2\n"
     ∷ printsQuick (tableOf 1 (1000 ∷ 1001 ∷ []) (1 ∷ 1 ∷ [])) "refused 7 2\n"
-    ∷ []
+    ∷ emptyCores
 
 -- Of two tasks of equal weight the lower number is placed.
 -- Two tasks that no core holds together: display and axis loop of equal weight, where the axis loop's shorter period gives it the lower core;

@@ -1,4 +1,4 @@
--- Laws of sums.
+-- Laws of sums and products.
 use Prim.Native.Nat.{ℕ, zero, suc, _+_, _*_, _≤_, _<_}
 use mathlib.Core.Path.{_≡_, refl, ap, ap₂, _∙_}
 use mathlib.Core.Bool.{cond}
@@ -6,11 +6,11 @@ use mathlib.Core.List.{List, [], _∷_}
 use mathlib.Core.Logic.{by-cases}
 use lib.Dec.{eqb, ltb}
 use lib.ListN.{length}
-use native.Mathlib.Nat.{add-zero, add-suc, zero-add}
+use native.Mathlib.Nat.{le-refl, le-trans, add-zero, add-suc, zero-add, suc-add, mul-le-mul, mul-le-mul-right}
 use native.Mathlib.Decide.{ℕ-discrete, decLt}
 use native.Mathlib.Omega.{arith}
 use borrow.Author.Tests.{eq-eqb, ne-eqb, lt-ltb, le-ltb}
-use Rattle.numbers.specs.Sums.{sumOver, sumTo}
+use Rattle.numbers.specs.Sums.{sumOver, sumTo, productTo}
 
 -- sums of equal terms
 pub sumTo-cong : (f g : ℕ → ℕ) (n : ℕ) → ((k : ℕ) → k < n → f k ≡ g k) → sumTo f n ≡ sumTo g n
@@ -23,6 +23,12 @@ pub sumTo-mono : (f g : ℕ → ℕ) (n : ℕ) → ((k : ℕ) → k < n → f k 
 unfolding sumTo
 sumTo-mono f g zero h = omega arith
 sumTo-mono f g (suc n) h = omega (arith, h n (omega arith), sumTo-mono f g n (λ k l. h k (omega arith)))
+
+-- more terms
+pub sumTo-grows : (f : ℕ → ℕ) (n w : ℕ) → sumTo f n ≤ sumTo f (w + n)
+unfolding sumTo
+sumTo-grows f n zero = rw zero-add (le-refl _)
+sumTo-grows f n (suc w) = rw suc-add (omega (arith, sumTo-grows f n w))
 
 -- terms of at most b add up to at most n times b
 pub sumTo-bound : (f : ℕ → ℕ) (n b : ℕ) → ((k : ℕ) → k < n → f k ≤ b) → sumTo f n ≤ n * b
@@ -73,3 +79,18 @@ sumTo-only x f (suc n) =
     (by-cases (decLt x n)
     (λ h. rw (lt-ltb x n h, lt-ltb x (suc n) (omega arith)))
     (λ h. rw (le-ltb x n (omega arith), le-ltb x (suc n) (omega arith)))))
+
+-- ---- products
+
+-- products of smaller factors
+pub productTo-mono : (f g : ℕ → ℕ) (n : ℕ) → ((k : ℕ) → k < n → f k ≤ g k) → productTo f n ≤ productTo g n
+unfolding productTo
+productTo-mono f g zero h = omega arith
+productTo-mono f g (suc n) h = mul-le-mul (h n (omega arith)) (productTo-mono f g n (λ k l. h k (omega arith)))
+
+-- further factors of at least 1
+pub productTo-grows : (f : ℕ → ℕ) (n w : ℕ) → ((k : ℕ) → 1 ≤ f k) → productTo f n ≤ productTo f (w + n)
+unfolding productTo
+productTo-grows f n zero h = rw zero-add (le-refl _)
+productTo-grows f n (suc w) h =
+    rw suc-add (le-trans (productTo-grows f n w h) (omega (arith, mul-le-mul-right (productTo f (w + n)) (h (w + n)))))

@@ -29,13 +29,15 @@ use Rattle.planning.proofs.OrderLaws.{sorted-is}
 use Rattle.taskset.specs.declared.Fields.{Fields}
 use Rattle.allocation.specs.Placement.{Feasible, Full, rejected}
 use Rattle.allocation.specs.Walk.{WalkAnswer, LastLeaf, NoLeaf}
-use Rattle.allocation.specs.TableOrder.{tableAnswer}
+use Rattle.allocation.specs.TableOrder.{inPlanningOrder, tableAnswer}
 use Rattle.allocation.specs.Guarantee.{Guarantee}
+use Rattle.allocation.proofs.Reorder.{gathered-positive}
 use Rattle.allocation.proofs.EmptyCores.{AlikeCores}
+use Rattle.allocation.proofs.EntryRule.{entry-rule}
 use Rattle.allocation.proofs.Guarantee.{guaranteed}
 use Rattle.planner.specs.Problem.{tableProblem, orderOf}
 use Rattle.planner.specs.Plan.{verdictOf, allocationOf, planFor, refusedPlan, planBy, planOf, verdictOutcome}
-use Rattle.planner.specs.Promise.{walkOf, choicesOf, Safe, StatedOrder, Promise, RefusedPlan, Plans}
+use Rattle.planner.specs.Promise.{walkOf, choicesOf, Safe, StatedOrder, Promise, WalkRule, RefusedPlan, Plans}
 use Rattle.planner.specs.declared.Allocation.{Allocation}
 use Rattle.planner.specs.declared.Verdict.the-variants.{All, Short, Spent}
 
@@ -96,6 +98,10 @@ module _ (f : Fields) (w : Within f) where
   positive k h =
       let b : k < f .n = rw demands-long at h in
       rw (getD-tab 0 (f .n) (demandOf f) k b) (demand-range w b .0)
+
+  walk-rule : WalkRule f
+  walk-rule = entry-rule (inPlanningOrder (tableProblem f) (orderOf f))
+      (gathered-positive (tableProblem f) (orderOf f) order-permutation positive)
 
   pub alike : AlikeCores (tableProblem f)
   unfolding tableProblem
@@ -218,5 +224,6 @@ module _ (s : List ℕ) (limit : ℕ) {r : Allocation} (e : r ≡ planOf s limit
     promise = λ v.
         let o : tableOutcome s ≡ outcome.Accepted = accepts (decides (table-tested s)) .1 v in
         rw (e, o) (promised (fieldsOf s) (v .fields) limit);
+    walks = λ v. walk-rule (fieldsOf s) (v .fields);
     refused = λ n. rw e (by-refused (tableOutcome s) (fieldsOf s) limit (rw (e, plan-outcome s limit) at n));
   }

@@ -15,6 +15,7 @@ use Rattle.stored.specs.Form.{fieldsOf}
 use Rattle.stored.specs.Limits.{Valid}
 use Rattle.allocation.specs.Placement.{Feasible, Full, load, rejected}
 use Rattle.allocation.specs.Walk.{Step, trace, LastLeaf, NoLeaf}
+use Rattle.allocation.specs.EntryRule.{EntryRule}
 use Rattle.allocation.specs.TableOrder.{inPlanningOrder, BestPlan}
 use Rattle.planner.specs.Problem.{tableProblem, orderOf}
 use Rattle.planner.specs.Plan.{verdictOutcome}
@@ -63,13 +64,20 @@ pub record Promise (f : Fields) (limit : ℕ) (r : Allocation) : Type 0 where
   pub limited : r .verdict ≡ Spent → r .steps ≡ limit
   pub complete : r .verdict ≢ Spent → r .steps ≡ length (walkOf f)
 
+-- The walk enters a choice exactly if the core's load stays at most H, what is left out may still improve on the stored placement,
+-- and no lower-numbered core is empty if the core is.
+abbrev pub WalkRule : Fields → Type 0
+WalkRule f = EntryRule (inPlanningOrder (tableProblem f) (orderOf f))
+
 -- A refused plan is all zeros beside its cause.
 pub record RefusedPlan (r : Allocation) : Type 0 where
   pub placement : r .placement ≡ replicate 16 0
   pub rejected : r .rejected ≡ 0
   pub steps : r .steps ≡ 0
 
--- What is promised of the answer for a table: a valid table's plan keeps demand 2, a refused one is zeros.
+-- What is promised of the answer for a table: a valid table's plan keeps demand 2, its walk enters choices by the paper's rule,
+-- and a refused plan is zeros.
 pub record Plans (table : List ℕ) (limit : ℕ) (r : Allocation) : Type 0 where
   pub promise : Valid table → Promise (fieldsOf table) limit r
+  pub walks : Valid table → WalkRule (fieldsOf table)
   pub refused : numberIn (verdictOutcome (r .verdict)) ≢ 0 → RefusedPlan r

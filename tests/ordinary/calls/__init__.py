@@ -11,6 +11,6 @@
 
 A further call is a further module, named here."""
 
-from calls import core, plan, quick, read, tick
+from calls import ceiling, core, plan, quick, read, tick
 
-CALLS = [read, plan, core, tick, quick]
+CALLS = [read, plan, core, tick, quick, ceiling]
