@@ -4,7 +4,7 @@ use native.Mathlib.Nat.{le-of-eq}
 use native.Mathlib.Decide.{ℕ-discrete}
 use native.Mathlib.Omega.{arith}
 use mathlib.Core.Path.{_≡_, refl, sym, ap, _∙_}
-use mathlib.Core.Bool.{Bool, true, false, cond, _&&_, false≢true}
+use mathlib.Core.Bool.{true, false, cond, _&&_, or-true, false≢true}
 use mathlib.Core.List.{List, [], _∷_, _++_, map}
 use mathlib.Core.Logic.{_≢_, ⊎-elim, dite}
 use lib.Dec.{eqb}
@@ -116,8 +116,8 @@ module _ (P : Problem) (p : List ℕ) (c d : ℕ) (a : Alike P p c d) (r : List 
 
 -- ---- the rule
 
--- an empty core is found
-pub some-empty : (P : Problem) (p : List ℕ) (k : ℕ) → someEmpty P p k ≡ true → (d : ℕ) × (1 ≤ d) × (d ≤ k) × (load P d p ≡ 0)
+-- one of the cores 1 to k is empty exactly if the test says so
+some-empty : (P : Problem) (p : List ℕ) (k : ℕ) → someEmpty P p k ≡ true → (d : ℕ) × (1 ≤ d) × (d ≤ k) × (load P d p ≡ 0)
 unfolding someEmpty isEmpty
 some-empty P p zero e = absurd (false≢true e)
 some-empty P p (suc k) e =
@@ -125,29 +125,57 @@ some-empty P p (suc k) e =
     (λ q. let x = some-empty P p k q in (x .0, x .1, omega (arith, x .2), x .3))
     (or-cases (isEmpty P p (suc k)) (someEmpty P p k) e)
 
+empty-among : (P : Problem) (p : List ℕ) (d : ℕ) → load P d p ≡ 0 → 1 ≤ d → (k : ℕ) → d ≤ k → someEmpty P p k ≡ true
+unfolding someEmpty isEmpty
+empty-among P p d e i zero l = absurd (omega arith)
+empty-among P p d e i (suc k) l =
+    dite (ℕ-discrete d (suc k)) (λ (q : d ≡ suc k). rw (← q, eq-eqb _ 0 e)) (λ n. rw (empty-among P p d e i k (omega arith), or-true))
+
+-- A choice that the walk passes over: an empty core, and a lower one that is empty too.
+pub record Passed (P : Problem) (p : List ℕ) (c : ℕ) : Type 0 where
+  pub lower : ℕ
+  pub below : (1 ≤ lower) × (lower < c)
+  pub empty : load P c p ≡ 0
+  pub lower-empty : load P lower p ≡ 0
+
+module _ (P : Problem) (p : List ℕ) (c : ℕ) where
+  pub passed-over : tried P p c ≡ false → Passed P p c
+  unfolding tried isEmpty
+  passed-over e =
+      let both = not-false (isEmpty P p c && someEmpty P p (pred c)) e in
+      let x = some-empty P p (pred c) (and-right (isEmpty P p c) (someEmpty P p (pred c)) both) in
+      record {
+        lower = x .0;
+        below = (x .1, omega (arith, x .1, x .2));
+        empty = eqb-true _ _ (and-left (isEmpty P p c) (someEmpty P p (pred c)) both);
+        lower-empty = x .3;
+      }
+
+  pub not-tried : Passed P p c → tried P p c ≡ false
+  unfolding tried isEmpty
+  not-tried x = rw (eq-eqb _ 0 (x .empty), empty-among P p (x .lower) (x .lower-empty) (x .below .0) (pred c) (omega (arith, x .below)))
+
 -- no task tells one core from another
 abbrev pub AlikeCores : Problem → Type 0
 AlikeCores P = (k c d : ℕ) → P .permits k c ≡ P .permits k d
 
 -- the walk passes over redundant choices alone: for one on an empty core there is the same on a lower empty core
 pub tried-redundant : (P : Problem) → AlikeCores P → Redundant P
-unfolding tried isEmpty
 tried-redundant P alike p c r e f =
-    let both = not-false (isEmpty P p c && someEmpty P p (pred c)) e in
-    let x = some-empty P p (pred c) (and-right (isEmpty P p c) (someEmpty P p (pred c)) both) in
-    let d = x .0 in
+    let x = passed-over P p c e in
+    let d = x .lower in
     let within = choice-within P p c r f in
     let a : Alike P p c d = record {
-      first = (omega (arith, x .1, x .2), within);
-      second = (x .1, omega (arith, x .2));
-      first-empty = eqb-true _ _ (and-left (isEmpty P p c) (someEmpty P p (pred c)) both);
-      second-empty = x .3;
+      first = (omega (arith, x .below), within);
+      second = (x .below .0, omega (arith, x .below));
+      first-empty = x .empty;
+      second-empty = x .lower-empty;
       permits = λ k h. alike k c d;
     } in
     record {
       choice = d;
       rest = map (swap c d) r;
-      earlier = core-core {c = d} {d = c} (x .1) (omega (arith, x .1, x .2));
+      earlier = core-core {c = d} {d = c} (x .below .0) (x .below .1);
       feasible = rw (swap-left c d) at (swapped-feasible P p c d a (c ∷ r) f);
       no-more = le-of-eq (rw (swap-left c d) at (swapped-rejects P p c d a (c ∷ r)));
     }

@@ -1,17 +1,17 @@
 -- The sum of products on its way, and what it comes to.
-use Prim.Native.Nat.{ℕ, zero, suc, _+_, _*_, _-_, _≤_, _<_, min}
-use native.Mathlib.Nat.{le-trans, le-refl}
+use Prim.Native.Nat.{ℕ, zero, suc, _+_, _*_, _-_, _≤_, _<_}
+use native.Mathlib.Nat.{le-trans}
 use native.Mathlib.Numerals.{add-one}
 use native.Mathlib.Omega.{arith}
-use mathlib.Core.Path.{_≡_, refl, sym, ap, _∙_}
-use Rattle.numbers.specs.Sums.{sumTo, sumFromOne, productTo, productFromOne}
+use mathlib.Core.Path.{_≡_, refl, sym, ap, ap₂, _∙_}
+use Rattle.numbers.specs.Sums.{sumTo, productTo, productFromOne}
 use Rattle.numbers.proofs.SumLaws.{sumTo-bound, sumTo-grows, productTo-mono, productTo-grows}
-use Rattle.ceiling.specs.Ceiling.{stepCeiling}
+use Rattle.ceiling.specs.Ceiling.{factorFor, stepCeiling}
 use Rattle.ceiling.specs.Promise.{Worked}
 
 -- the product over j from 1 to k
 abbrev product : ℕ → ℕ → ℕ
-product m k = productFromOne (λ j. min j m + 1) k
+product m k = productFromOne (λ j. factorFor m j) k
 
 -- sixteen factors of at most 5
 product-small : (m k : ℕ) → m ≤ 4 → k ≤ 16 → product m k ≤ 152587890625
@@ -38,10 +38,10 @@ unfolding stepCeiling sumTo productTo
 add-start h = record { few-cores = h .1; few = h .0; top = omega arith; sum-is = refl; product-is = refl }
 
 -- the next factor
-module _ {m n s p k : ℕ} (a : Adding m n s p k) (l : k < n) {x : ℕ} (e : x ≡ min (k + 1) m + 1) where
+module _ {m n s p k : ℕ} (a : Adding m n s p k) (l : k < n) {x : ℕ} (e : x ≡ factorFor m (k + 1)) where
   next-product : x * p ≡ product m (suc k)
   unfolding productTo
-  next-product = rw (e, add-one k, a .product-is)
+  next-product = ap₂ _*_ (e ∙ ap (factorFor m) (add-one k)) (a .product-is)
 
   pub product-fits : x * p < 18446744073709551616
   product-fits = omega (arith, next-product, product-small m (suc k) (a .few-cores) (omega (arith, a .few)))

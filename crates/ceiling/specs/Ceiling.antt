@@ -9,9 +9,13 @@ use Rattle.stored.specs.Form.{fieldsOf}
 use Rattle.stored.specs.Tests.{tableOutcome}
 use Rattle.ceiling.specs.declared.StepCeiling.{StepCeiling}
 
--- for n tasks on m cores the sum, over k from 1 to n, of the product over j from 1 to k of (the smaller of j and m, plus 1)
+-- the factor for j on m cores: the smaller of j and m, plus 1
+abbrev pub factorFor : ℕ → ℕ → ℕ
+factorFor m j = min j m + 1
+
+-- for n tasks on m cores the sum, over k from 1 to n, of the product over j from 1 to k of the factor for j
 unfoldable pub stepCeiling : ℕ → ℕ → ℕ
-stepCeiling m n = sumFromOne (λ k. productFromOne (λ j. min j m + 1) k) n
+stepCeiling m n = sumFromOne (λ k. productFromOne (λ j. factorFor m j) k) n
 
 -- the answer by the outcome of the table's tests: a refused table has ceiling 0
 unfoldable pub ceilingBy : Outcome → Fields → StepCeiling

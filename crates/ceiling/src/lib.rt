@@ -1,11 +1,11 @@
 // The step ceiling of a table: as many steps as the exact planner's walk has at most.
 ghost use mathlib.Core.Path.{_≡_};
 ghost use mathlib.Core.Logic.{_≢_};
-ghost use Prim.Native.Nat.{_+_, _*_, _≤_, _<_, min};
+ghost use Prim.Native.Nat.{_*_, _≤_, _<_};
 ghost use Rattle.refusal.specs.Causes.{numberIn};
 ghost use Rattle.refusal.specs.Conditions.{Decides};
 ghost use Rattle.stored.specs.Limits.{Valid, conditions};
-ghost use Rattle.ceiling.specs.Ceiling.{stepCeiling, ceilingOf};
+ghost use Rattle.ceiling.specs.Ceiling.{factorFor, stepCeiling, ceilingOf};
 ghost use Rattle.ceiling.specs.Promise.{Promise};
 use refusal::Outcome;
 
@@ -18,7 +18,7 @@ pub struct StepCeiling {
 // The factor for j: the smaller of j and m, plus 1.
 fn factor(j: u64, m: u64) -> u64
     requires { ⌜ m ≤ 4 ⌝ }
-    ensures { λ r. ⌜ r ≡ min j m + 1 ⌝ }
+    ensures { λ r. ⌜ r ≡ factorFor m j ⌝ }
 {
     if j < m { j + 1 } else { m + 1 }
 }

@@ -39,15 +39,15 @@ none l (suc c) h = absurd (omega arith)
 returns : tie.Need-returns Inv-loop μ-loop
 returns c =
     let l = c .before .before .before .loop in
-    sym (l .inv .1 ∙ found _ (l .c) (c .before .before .loop-test .taken) (c .if1 .taken))
+    sym (l .inv .1 ∙ found _ (l .c) (omega arith) (c .if1 .taken))
 
 loop-again : tie.Need-loop-again Inv-loop μ-loop
 loop-again c =
     let l = c .before .before .before .loop in
-    (omega arith, l .inv .1 ∙ passed _ (l .c) (c .before .before .loop-test .taken) (c .if1 .left))
+    (omega arith, l .inv .1 ∙ passed _ (l .c) (omega arith) (c .if1 .left))
 
 returns-2 : tie.Need-returns-2 Inv-loop μ-loop
-returns-2 c = sym (c .before .loop .inv .1 ∙ none _ (c .before .loop .c) (c .loop-test .left))
+returns-2 c = sym (c .before .loop .inv .1 ∙ none _ (c .before .loop .c) (omega arith))
 
 pub some-empty-spec : {M : Type 1} → statement M
 some-empty-spec =
