@@ -32,8 +32,9 @@ enum {
  * table      byte 0: n; byte 1: m; then n periods and n times in ticks of 100 microseconds,
  *            four bytes each, lowest byte first. Only read; may be NULL if it has no bytes.
  * table_len  number of table bytes.
- * limit      most steps the search may take; 1,000,000 is usual. A tighter limit is safe: the
- *            answer then says that it ran out.
+ * limit      most steps the search may take; 1,000,000 is usual, and always enough for up to 16,
+ *            12, 10 and 9 tasks on 1, 2, 3 and 4 cores. A tighter limit is safe: the answer then
+ *            says that it ran out. README.md says which limit never runs out.
  * plan       receives n bytes: for each task, in table order, its core from 1, or 0 if it is
  *            left out. Must not overlap the table; may be NULL if it has no bytes.
  * plan_len   number of bytes at plan, at least n. Bytes after the first n keep their values.
