@@ -1,5 +1,5 @@
 -- The state of the walk's two loops, and what each move of the code keeps.
-use Prim.Native.Nat.{ℕ, suc, _+_, _-_, _≤_, _<_}
+use Prim.Native.Nat.{ℕ, suc, _+_, _*_, _-_, _≤_, _<_}
 use native.Mathlib.Nat.{le-refl, add-zero}
 use native.Mathlib.Numerals.{add-one}
 use native.Mathlib.Decide.{ℕ-discrete}
@@ -223,7 +223,7 @@ module _ {J : Job} {L : Locals} {x : ℕ} (v : Looked J L x true) where
       found s (rw f (progress-stop (problem J) (s .progress) (v .within) (J .limit) (path-room s) l here f))
 
   module _ (f : L .steps ≡ J .limit → ⊥) where
-    more : L .steps + 1 ≤ J .limit
+    pub more : L .steps + 1 ≤ J .limit
     more = let apart : L .steps ≢ J .limit = f in omega (arith, s .within)
 
     abbrev made : List ℕ
@@ -294,6 +294,19 @@ module _ {J : Job} {L : Locals} {x : ℕ} (v : Looked J L x true) where
       next-within = omega arith;
       within = more;
     }
+
+-- ---- the loops' numbers fall
+
+pub one-choice-less : {m j : ℕ} → j ≤ m → m + 2 - (j + 1) < m + 2 - j
+one-choice-less h = omega arith
+
+-- s₀ and d₀ are steps and depth where the loop over choices began
+module _ {s s₀ : ℕ} (h : s₀ ≤ s) where
+  pub no-fewer : s₀ ≤ s + 1
+  no-fewer = omega arith
+
+  pub one-step-less : {limit d d₀ : ℕ} → s + 1 ≤ limit → d ≡ d₀ → 2 * (limit - (s + 1)) + (d + 1) < 2 * (limit - s₀) + d₀
+  one-step-less l e = omega arith
 
 -- ---- one task back
 

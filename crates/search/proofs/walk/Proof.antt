@@ -10,7 +10,7 @@ use lib.ListN.{getD}
 use Rattle.numbers.proofs.BoolLaws.{cond-le}
 use native.Mathlib.Nat.{le-refl}
 use Rattle.search.proofs.State.{locals, Walking, walk-start, walk-done, walk-back, one-less, last-small, last-enough}
-use Rattle.search.proofs.State.{depth-small, load-small, Looked, choice-small, enters, skips, stops, stores, descends}
+use Rattle.search.proofs.State.{depth-small, load-small, Looked, choice-small, enters, skips, stops, more, stores, descends, one-choice-less, one-step-less, no-fewer}
 use Rattle.search.proofs.Choices.{job, total-small, ranges-fixed, core-unfit, core-passed, core-lowest, core-used, none-looked, past}
 use Rattle.search.proofs.walk.Statement.{statement}
 use Rattle.search.proofs.walk.Tie as tie
@@ -117,6 +117,12 @@ with-more-requires c κs =
     let v = entering (c .before .before .before .before) in
     (choice-small v, λ k. omega (arith, load-small (v .state) k))
 
+tasks-less-2 : tie.Need-tasks-less-2 Inv-choices μ-choices Inv-tasks μ-tasks
+tasks-less-2 c =
+    let g = c .before .before .before .before .before in
+    let t = g .before .choices .inv in
+    one-step-less (t .2) (more (entering g) (c .before .before .before .before .if8 .left)) (t .1)
+
 tasks-again-2 : tie.Need-tasks-again-2 Inv-choices μ-choices Inv-tasks μ-tasks
 tasks-again-2 c =
     let g = c .before .before .before .before .before in
@@ -128,11 +134,14 @@ add-rejected c =
     let l = g .before .choices in
     omega (arith, load-small (l .inv .0) 0, c .pick .ensures, cond-le (eqb (g .if1 .c) 0) (getD (g .before .before .before .args .t1) (l .depth) 0) _ (le-refl _))
 
+choices-less-3 : tie.Need-choices-less-3 Inv-choices μ-choices Inv-tasks μ-tasks
+choices-less-3 c = one-choice-less (entering (c .before .before .before .before .before) .within)
+
 choices-again-3 : tie.Need-choices-again-3 Inv-choices μ-choices Inv-tasks μ-tasks
 choices-again-3 c =
     let g = c .before .before .before .before .before in
     let t = g .before .choices .inv in
-    (stores (entering g) (c .before .before .before .before .if8 .left) (c .before .if9 .left) (c .before .before .with-choice .ensures) (c .pick .ensures), t .1, omega arith, t .3)
+    (stores (entering g) (c .before .before .before .before .if8 .left) (c .before .if9 .left) (c .before .before .with-choice .ensures) (c .pick .ensures), t .1, no-fewer (t .2), t .3)
 
 returns : tie.Need-returns Inv-choices μ-choices Inv-tasks μ-tasks
 returns c = rw (c .before .before .before .choices .inv .3) (walk-done (none-left (c .before)) (omega arith) (c .if7 .taken))
@@ -152,6 +161,6 @@ walk-spec =
     (λ c. search needs) cast-last-2 (λ c. search needs) (λ c. search needs) (λ c. search needs) with-less-requires
     (λ c κs. search needs) (λ c. search needs) tasks-again (λ c. search needs) cast-with-choice with-choice-requires
     (λ c. search needs) (λ c. search needs) (λ c. search needs) (λ c. search needs) with-more-requires
-    (λ c. search needs) (λ c. omega arith) tasks-again-2 (λ c. search needs) (λ c. search needs) (λ c. search needs)
-    (λ c. search needs) (λ c κs. search needs) add-rejected (λ c. search needs) (λ c. omega arith) choices-again-3
+    (λ c. search needs) tasks-less-2 tasks-again-2 (λ c. search needs) (λ c. search needs) (λ c. search needs)
+    (λ c. search needs) (λ c κs. search needs) add-rejected (λ c. search needs) choices-less-3 choices-again-3
     returns returns-2)
