@@ -1,5 +1,5 @@
 -- First fit is the walk's first descent.
-use Prim.Native.Nat.{ℕ, zero, suc, _+_, _<_}
+use Prim.Native.Nat.{ℕ, zero, suc, _+_, _<_, zero-le}
 use native.Mathlib.Omega.{arith}
 use mathlib.Core.Path.{_≡_, refl, sym, ap, _∙_}
 use mathlib.Core.Bool.{true, false, true≢false}
@@ -16,7 +16,7 @@ use Rattle.allocation.specs.Walk.{Step, stepInto, boundAfter, storedAfte
 use Rattle.allocation.specs.FirstFit.{lowestFit, fitFrom, firstFit, FirstDescent}
 use Rattle.allocation.proofs.Demands.{excess-le}
 use Rattle.allocation.proofs.Order.{length-choices, choice-le, choices-ordered}
-use Rattle.allocation.proofs.Sound.{Partial, into, entered-rejects, try-skip, try-enter}
+use Rattle.allocation.proofs.Sound.{Partial, into, try-skip, try-enter, try-over}
 use Rattle.allocation.proofs.Complete.{choice-within, choice-fits, snoc-mono}
 use Rattle.allocation.proofs.Optimal.{none, start}
 use Rattle.allocation.proofs.FirstFit.{next, one, one-long, one-partial, fit-begins, fit-feasible}
@@ -63,14 +63,6 @@ module _ (P : Problem) where
     try-pass b [] (suc j) h = refl
     try-pass b (c ∷ cs) (suc j) h =
         try-skip P k below p c cs b (h 0 (omega arith)) ∙ try-pass b cs j (λ i l. h (suc i) (omega arith))
-
-    -- a bound of 0 is not beaten
-    try-zero : (cs : List ℕ) → tryAll P k below p cs 0 ≡ []
-    unfolding tryAll
-    try-zero [] = refl
-    try-zero (c ∷ cs) =
-        ⊎-elim (λ e. absurd (omega (arith, entered-rejects P p c 0 e)))
-        (λ e. try-skip P k below p c cs 0 e ∙ try-zero cs) (true-or-false (entered P p c 0))
 
   unfit : (p : List ℕ) (c b : ℕ) → fits P p c ≡ false → entered P p c b ≡ false
   unfolding entered
@@ -136,7 +128,7 @@ module _ (P : Problem) where
       module _ (d : Descends k (one P p) (visit P k (one P p) b)) where
         no-others : rejected P (fitFrom P k (one P p)) ≡ 0 → others ≡ []
         unfolding others
-        no-others z = rw (d .is, d .ends z, append-nil (descent k (one P p)), descent-bound k (one P p) b, z) (try-zero k below p _)
+        no-others z = rw (d .is, d .ends z, append-nil (descent k (one P p)), descent-bound k (one P p) b, z) (try-over P k below p _ 0 zero-le)
 
         descend : Descends (suc k) p (visit P (suc k) p b)
         unfolding descent fitFrom

@@ -10,10 +10,10 @@ use lib.Dec.{ltb}
 use lib.ListN.{length, getD, take, set, replicate, length-append}
 use lib.Seq.{append-snoc, take-all, take-at}
 use borrow.Author.Tests.{lt-ltb, le-ltb}
-use Rattle.allocation.specs.Placement.{Problem, total, rejected}
+use Rattle.allocation.specs.Placement.{Problem, total, rejected, excess}
 use Rattle.allocation.specs.Walk.{Step, inner, boundAfter, storedAfter, entered, choices, triedBy, trace, stored, answer, WalkAnswer}
 use Rattle.allocation.proofs.Steps.{boundAfter-append, storedAfter-append}
-use Rattle.allocation.proofs.Remaining.{remaining, remaining-start, remaining-skip, remaining-leaf, remaining-descend, remaining-back, remaining-end, remaining-take}
+use Rattle.allocation.proofs.Remaining.{remaining, remaining-start, remaining-skip, remaining-leaf, remaining-descend, remaining-back, remaining-end, remaining-over, remaining-take}
 
 -- `made` are the steps so far: they account for the bound, the stored placement and the step count.
 pub record Progress (P : Problem) (path : List ℕ) (d j b : ℕ) (best : List ℕ) (steps : ℕ) : Type 0 where
@@ -101,12 +101,20 @@ module _ (P : Problem) where
           (λ q. progress-spent limit f _ _ (remaining-leaf P path d j b within q e))
           (λ q. progress-spent limit f _ _ (remaining-descend P path d j b within i (omega arith) e))
 
-    -- all choices of the first task have been tried
-    pub progress-done : (limit : ℕ) → steps ≤ limit → d ≡ 0 → P .cores < j → answer P limit ≡ answered best steps false
-    progress-done limit e z h =
-        let w : trace P ≡ r .made = r .whole ∙ rw (z, remaining-end P path j b h) (append-nil (r .made)) in
+    -- nothing is left
+    progress-end : (limit : ℕ) → steps ≤ limit → remaining P path d j b ≡ [] → answer P limit ≡ answered best steps false
+    progress-end limit e q =
+        let w : trace P ≡ r .made = r .whole ∙ rw q (append-nil (r .made)) in
         let k : length (trace P) ≡ steps = ap length w ∙ r .counts in
         answers limit (take-all limit (trace P) (omega arith) ∙ w) (omega arith) (le-ltb limit _ (omega arith))
+
+    -- all choices of the first task have been tried
+    pub progress-done : (limit : ℕ) → steps ≤ limit → d ≡ 0 → P .cores < j → answer P limit ≡ answered best steps false
+    progress-done limit e z h = progress-end limit e (rw z (remaining-end P path j b h))
+
+    -- the stored placement rejects no more than the excess
+    pub progress-over : (limit : ℕ) → steps ≤ limit → b ≤ excess P → answer P limit ≡ answered best steps false
+    progress-over limit e h = progress-end limit e (remaining-over P path b h d j)
 
   -- all choices of a later task have been tried
   pub progress-back : {path : List ℕ} {d j b : ℕ} {best : List ℕ} {steps : ℕ} → Progress P path (suc d) j b best steps → P .cores < j

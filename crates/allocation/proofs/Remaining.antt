@@ -8,11 +8,11 @@ use mathlib.Core.Bool.{true, false}
 use mathlib.Core.List.{List, [], _∷_, _++_, append-nil, append-assoc}
 use lib.ListN.{length, getD, take, drop, set, drop-of-length-le}
 use lib.Seq.{drop-cons, take-set-le, take-suc-set, take-take, getD-take, getD-set-same}
-use Rattle.allocation.specs.Placement.{Problem, total, rejected}
+use Rattle.allocation.specs.Placement.{Problem, total, rejected, excess}
 use Rattle.allocation.specs.Walk.{Step, inner, leaf, stepInto, boundAfter, entered, tryAll, visit, choices, triedBy, trace}
 use Rattle.allocation.proofs.Order.{length-choices, tried-by-choice}
 use Rattle.allocation.proofs.Steps.{boundAfter-append}
-use Rattle.allocation.proofs.Sound.{try-skip, try-enter}
+use Rattle.allocation.proofs.Sound.{try-skip, try-enter, try-over}
 
 -- ---- the steps that are left
 
@@ -66,6 +66,21 @@ module _ (P : Problem) where
   pub remaining-end : (path : List ℕ) (j b : ℕ) → m < j → remaining path 0 j b ≡ []
   unfolding remaining backlog
   remaining-end path j b h = rw (level-done path 0 j b h)
+
+  -- nothing is left where the bound is at most the excess
+  module _ (path : List ℕ) (b : ℕ) (h : b ≤ excess P) where
+    level-over : (d j : ℕ) → level path d j b ≡ []
+    unfolding level
+    level-over d j = try-over P _ _ (take d path) (drop j (choices m)) b h
+
+    backlog-over : (d : ℕ) → backlog path d b ≡ []
+    unfolding backlog boundAfter
+    backlog-over zero = refl
+    backlog-over (suc d) = rw (level-over d (triedBy m (getD path d 0))) (backlog-over d)
+
+    pub remaining-over : (d j : ℕ) → remaining path d j b ≡ []
+    unfolding remaining boundAfter
+    remaining-over d j = rw (level-over d j) (backlog-over d)
 
   -- choice number j of task d
   module _ (path : List ℕ) (d j b : ℕ) (within : j ≤ m) where

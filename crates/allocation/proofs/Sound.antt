@@ -1,17 +1,17 @@
 -- What the walk completes is feasible.
-use Prim.Native.Nat.{ℕ, zero, suc, _+_, _≤_, _<_}
+use Prim.Native.Nat.{ℕ, zero, suc, _+_, _≤_, _<_, max}
 use native.Mathlib.Decide.{ℕ-discrete}
 use native.Mathlib.Omega.{arith}
-use mathlib.Core.Path.{_≡_, refl}
-use mathlib.Core.Bool.{Bool, true, false, _&&_}
+use mathlib.Core.Path.{_≡_, refl, _∙_}
+use mathlib.Core.Bool.{Bool, true, false, _&&_, and-false}
 use mathlib.Core.List.{List, [], _∷_, _++_}
 use mathlib.Core.Logic.{dite}
 use lib.Dec.{leb}
 use lib.ListN.{length, getD, length-append, List·getD-append}
 use lib.Seq.{getD-append-seam}
 use borrow.Author.Count.{below-more}
-use borrow.Author.Tests.{ltb-true, leb-true, le-leb, ne-eqb}
-use Rattle.allocation.specs.Placement.{Problem, Feasible, rejected, load}
+use borrow.Author.Tests.{ltb-true, le-ltb, leb-true, le-leb, ne-eqb}
+use Rattle.allocation.specs.Placement.{Problem, Feasible, rejected, load, excess}
 use Rattle.numbers.proofs.BoolLaws.{and-left, and-right, and-intro}
 use Rattle.numbers.proofs.LoadLaws.{demandOn-other}
 use Rattle.allocation.specs.Rule.{tried}
@@ -81,6 +81,11 @@ module _ (P : Problem) where
     unfolding entered
     entered-rejects = omega (arith, ltb-true _ b (and-right (fits P p c && tried P p c) (improves P p c b) e))
 
+  -- no choice improves on a bound that is at most the excess
+  entered-over : (p : List ℕ) (c b : ℕ) → b ≤ excess P → entered P p c b ≡ false
+  unfolding entered
+  entered-over p c b h = rw (le-ltb (max (rejected P (p ++ (c ∷ []))) (excess P)) b (omega arith)) (and-false (fits P p c && tried P p c))
+
   module _ (k : ℕ) (below : List ℕ → ℕ → List Step) where
     pub try-skip : (p : List ℕ) (c : ℕ) (cs : List ℕ) (b : ℕ) → entered P p c b ≡ false → tryAll P k below p (c ∷ cs) b ≡ tryAll P k below p cs b
     unfolding tryAll boundAfter
@@ -91,6 +96,12 @@ module _ (P : Problem) where
         ≡ into k below p c b ++ tryAll P k below p cs (boundAfter P b (into k below p c b))
     unfolding tryAll
     try-enter p c cs b e = rw e
+
+    -- a bound that is at most the excess is not beaten
+    pub try-over : (p cs : List ℕ) (b : ℕ) → b ≤ excess P → tryAll P k below p cs b ≡ []
+    unfolding tryAll
+    try-over p [] b h = refl
+    try-over p (c ∷ cs) b h = try-skip p c cs b (entered-over p c b h) ∙ try-over p cs b h
 
     -- a property of what each entered choice completes is one of all that the choices complete
     try-sound : (Q : ℕ → List ℕ → Type 0) (p cs : List ℕ)
