@@ -5,9 +5,9 @@ use mathlib.Core.List.{List}
 use lib.Dec.{eqb, leb, ltb}
 use lib.ListN.{getD}
 
--- whether choice c is entered, where it makes its load `load` and the rejected demand `out`
-abbrev pub mayEnter : ℕ → ℕ → ℕ → ℕ → ℕ → ℕ → Bool
-mayEnter c load h out over bound = (eqb c 0 || leb load h) && (ltb out bound && ltb over bound)
+-- whether choice c has room and improves on the bound, where it makes its load `load` and the rejected demand `out`
+abbrev pub mayEnter : ℕ → ℕ → ℕ → ℕ → ℕ → Bool
+mayEnter c load h out bound = (eqb c 0 || leb load h) && ltb out bound
 
 -- whether one of the entries 1 to k of a row is 0
 unfoldable pub someZero : List ℕ → ℕ → Bool

@@ -23,7 +23,7 @@ pub fn pick_byte(c: u8, i: u8, x: u8, y: u8) -> u8
 }
 
 // The placement with the choice of the task at `at` changed. Here and for the loads each entry is written, by its own
-// test: the compiler makes that a few operations on all entries at once.
+// test in the entries' own width: the compiler makes that a few operations on all entries at once.
 pub fn with_choice(mut path: [u8; 16], at: u8, c: u8) -> [u8; 16]
     requires { ⌜ at < 16 ⌝ }
     ensures { λ r. ⌜ r ≡ set path at c ⌝ }
@@ -73,18 +73,12 @@ pub fn tried_by(m: u32, c: u32) -> u32
     if c == 0 { m + 1 } else { c }
 }
 
-// Whether a choice that makes the rejected demand `out` may still improve on the stored placement.
-pub fn improves(out: u32, excess: u32, bound: u32) -> bool
-    ensures { λ r. ⌜ r ≡ (ltb out bound && ltb excess bound) ⌝ }
+// Whether a core has room for a task that makes its load `load`, and `out`, what is rejected, may still improve on the
+// stored placement.
+pub fn enters_core(load: u32, h: u32, out: u32, bound: u32) -> bool
+    ensures { λ r. ⌜ r ≡ mayEnter 1 load h out bound ⌝ }
 {
-    (out < bound) & (excess < bound)
-}
-
-// Whether a core is entered that gets the load `load`, where `out` is rejected.
-pub fn enters_core(load: u32, h: u32, out: u32, excess: u32, bound: u32) -> bool
-    ensures { λ r. ⌜ r ≡ mayEnter 1 load h out excess bound ⌝ }
-{
-    (load <= h) & improves(out, excess, bound)
+    (load <= h) & (out < bound)
 }
 
 // Whether one of the cores 1 to k is empty.

@@ -10,7 +10,7 @@ use mathlib.Core.List.{List}
 use mathlib.Core.Logic.{dite}
 use lib.Dec.{eqb, leb, ltb}
 use lib.ListN.{length, getD, take}
-use borrow.Author.Tests.{lt-ltb, le-ltb, eq-eqb, ne-eqb, not-true, not-false}
+use borrow.Author.Tests.{lt-ltb, le-ltb, le-leb, lt-leb, eq-eqb, ne-eqb, not-true, not-false}
 use Rattle.numbers.proofs.BoolLaws.{and-swap}
 use Rattle.numbers.proofs.LoadLaws.{sum-take-le}
 use Rattle.allocation.specs.Placement.{problemOf, total, excess}
@@ -34,11 +34,15 @@ total-small {demands} {n} {m} {h} g =
 pub ranges-fixed : {demands : List ℕ} {n m h limit : ℕ} → Ranges demands n m h → length demands ≡ 16 → Fixed (job demands n m h limit)
 ranges-fixed g l = record { row-long = l; few = g .few; few-cores = g .few-cores; small = total-small g }
 
-ltb-max : (o e b : ℕ) → ltb (max o e) b ≡ (ltb o b && ltb e b)
-ltb-max o e b =
+not-leb : (a b : ℕ) → not (leb a b) ≡ ltb b a
+not-leb a b =
+    dite (decLt b a) (λ x. rw (lt-leb a b x, lt-ltb b a x)) (λ x. rw (le-leb a b (omega arith), le-ltb b a (omega arith)))
+
+-- beside a number that is below the bound, the other one decides
+ltb-max : (o e b : ℕ) → e < b → ltb (max o e) b ≡ ltb o b
+ltb-max o e b h =
     dite (decLt o b)
-    (λ x. dite (decLt e b) (λ y. rw (lt-ltb o b x, lt-ltb e b y, lt-ltb (max o e) b (omega arith)))
-    (λ y. rw (lt-ltb o b x, le-ltb e b (omega arith), le-ltb (max o e) b (omega arith))))
+    (λ x. rw (lt-ltb o b x, lt-ltb (max o e) b (omega arith)))
     (λ x. rw (le-ltb o b (omega arith), le-ltb (max o e) b (omega arith)))
 
 module _ {J : Job} {L : Locals} (s : Walking J L) where
@@ -49,15 +53,16 @@ module _ {J : Job} {L : Locals} (s : Walking J L) where
   abbrev node : List ℕ
   node = take (L .depth) (L .path)
 
-  -- the walk's test on the code's numbers
-  test-is : (x : ℕ) → let out = getD (L .loads) 0 0 + cond (eqb x 0) demand 0 in
+  -- the walk's test on the code's numbers, while the excess is below the bound
+  test-is : {over : ℕ} → over ≡ excess (problem J) → over < L .bound → (x : ℕ)
+      → let out = getD (L .loads) 0 0 + cond (eqb x 0) demand 0 in
       entered (problem J) node x (L .bound)
-      ≡ (mayEnter x (getD (L .loads) x 0 + demand) (J .capacity) out (excess (problem J)) (L .bound) && tried (problem J) node x)
+      ≡ (mayEnter x (getD (L .loads) x 0 + demand) (J .capacity) out (L .bound) && tried (problem J) node x)
   unfolding entered
-  test-is x =
+  test-is ex low x =
       let out = getD (L .loads) 0 0 + cond (eqb x 0) demand 0 in
-      rw (load-next s x x, eq-eqb x x refl, load-next s x 0, ltb-max)
-      (and-swap (eqb x 0 || leb (getD (L .loads) x 0 + demand) (J .capacity)) (tried (problem J) node x) (ltb out (L .bound) && ltb (excess (problem J)) (L .bound)))
+      rw (load-next s x x, eq-eqb x x refl, load-next s x 0, ltb-max out (excess (problem J)) (L .bound) (rw ex at low))
+      (and-swap (eqb x 0 || leb (getD (L .loads) x 0 + demand) (J .capacity)) (tried (problem J) node x) (ltb out (L .bound)))
 
   -- the rule on the code's numbers
   some-empty-is : (k : ℕ) → someZero (L .loads) k ≡ someEmpty (problem J) node k
@@ -72,14 +77,14 @@ module _ {J : Job} {L : Locals} (s : Walking J L) where
     tried-is f = rw (add-one (L .next), s .chosen .loads-are (suc (L .next)), f, some-empty-is (L .next))
 
     -- core next + 1 is looked at
-    module _ {over : ℕ} (ex : over ≡ excess (problem J)) {r : Bool}
-        (fits : r ≡ mayEnter 1 (getD (L .loads) (L .next + 1) 0 + demand) (J .capacity) (getD (L .loads) 0 0) over (L .bound)) where
+    module _ {over : ℕ} (ex : over ≡ excess (problem J)) (low : over < L .bound) {r : Bool}
+        (fits : r ≡ mayEnter 1 (getD (L .loads) (L .next + 1) 0 + demand) (J .capacity) (getD (L .loads) 0 0) (L .bound)) where
       core-looked : {t : Bool} → (r && tried (problem J) node (L .next + 1)) ≡ t → Looked J L (L .next + 1) t
       core-looked e = record {
         state = s;
         within = omega arith;
         choice-is = add-one (L .next) ∙ sym (choice-core (J .cores) (L .next) k);
-        tested = sym (test-is (L .next + 1) ∙ rw (ne-eqb (L .next + 1) 0 (λ z. omega arith), add-zero, ← ex, ← fits) e);
+        tested = sym (test-is ex low (L .next + 1) ∙ rw (ne-eqb (L .next + 1) 0 (λ z. omega arith), add-zero, ← fits) e);
       }
 
       -- it has no room for the task, or would not improve
@@ -105,14 +110,13 @@ module _ {J : Job} {L : Locals} (s : Walking J L) where
   none-tried = rw and-false
 
   -- leaving the task out is looked at
-  pub none-looked : J .cores ≤ L .next → L .next ≤ J .cores → {over : ℕ} → over ≡ excess (problem J) → {r : Bool}
-      → r ≡ (ltb (getD (L .loads) 0 0 + demand) (L .bound) && ltb over (L .bound))
-      → Looked J L 0 r
-  none-looked g k ex e = record {
+  pub none-looked : J .cores ≤ L .next → L .next ≤ J .cores → {over : ℕ} → over ≡ excess (problem J) → over < L .bound
+      → {r : Bool} → leb (L .bound) (getD (L .loads) 0 0 + demand) ≡ r → Looked J L 0 (not r)
+  none-looked g k ex low e = record {
     state = s;
     within = k;
     choice-is = let q : L .next ≡ J .cores = omega arith in rw q (sym (choice-none (J .cores)));
-    tested = rw (test-is 0, ← ex, none-tried, and-true) e;
+    tested = rw (test-is ex low 0, none-tried, and-true, ← e) (not-leb (L .bound) (getD (L .loads) 0 0 + demand));
   }
 
   -- no choice is left

@@ -1,5 +1,5 @@
 -- The state of the walk's two loops, and what each move of the code keeps.
-use Prim.Native.Nat.{ℕ, suc, _+_, _*_, _-_, _≤_, _<_}
+use Prim.Native.Nat.{ℕ, suc, _+_, _*_, _-_, _%_, _≤_, _<_}
 use native.Mathlib.Nat.{le-refl, add-zero}
 use native.Mathlib.Numerals.{add-one}
 use native.Mathlib.Decide.{ℕ-discrete}
@@ -13,11 +13,11 @@ use lib.ListN.{length, getD, take, drop, set, replicate, length-set, take-append
 use lib.Seq.{take-set-le, take-suc-set, take-suc, getD-take, getD-set-same, getD-set-other, drop-set-lt, length-take-le}
 use borrow.Author.Count.{below-more}
 use borrow.Author.Tests.{eq-eqb, ne-eqb, not-true, not-false}
-use Rattle.allocation.specs.Placement.{Problem, problemOf, load, rejected, total}
+use Rattle.allocation.specs.Placement.{Problem, problemOf, load, rejected, total, excess}
 use Rattle.allocation.specs.Walk.{entered, choices, triedBy, answer}
 use Rattle.numbers.proofs.LoadLaws.{demandOn-same, demandOn-other, demandOn-none, demandOn-le-sum, getD-le-sum, none-rejects}
 use Rattle.allocation.proofs.Order.{choice-le, tried-by-le}
-use Rattle.allocation.proofs.Progress.{Progress, progress-start, progress-skip, progress-leaf, progress-descend, progress-back, progress-stop, progress-done, progress-take}
+use Rattle.allocation.proofs.Progress.{Progress, progress-start, progress-skip, progress-leaf, progress-descend, progress-back, progress-stop, progress-done, progress-over, progress-take}
 use Rattle.numbers.specs.Rows.{padded}
 use Rattle.search.specs.Search.{foundOf}
 use Rattle.search.specs.declared.Found.{Found}
@@ -145,6 +145,10 @@ module _ {J : Job} {L : Locals} (s : Walking J L) where
   pub depth-small : L .depth < 16
   depth-small = omega (arith, s .chosen .depth-below, s .fixed .few)
 
+  -- so it is the same in a byte
+  pub depth-byte : L .depth % 256 ≡ L .depth
+  depth-byte = omega (arith, depth-small)
+
   path-room : L .depth < length (L .path)
   path-room = omega (arith, depth-small, s .chosen .path-row .long)
 
@@ -177,6 +181,10 @@ module _ {J : Job} {L : Locals} (s : Walking J L) where
   pub walk-done : J .cores < L .next → L .depth ≡ 0 → returned L false ≡ foundOf (answer P (J .limit))
   walk-done h z = found (progress-done P (s .progress) (J .limit) (s .within) z h)
 
+  -- and it is as soon as the bound is at most the excess
+  pub walk-over : {over : ℕ} → over ≡ excess P → L .bound ≤ over → returned L false ≡ foundOf (answer P (J .limit))
+  walk-over e h = found (progress-over P (s .progress) (J .limit) (s .within) (rw e at h))
+
 -- A choice looked at: x is the choice, and r whether it is entered.
 pub record Looked (J : Job) (L : Locals) (x : ℕ) (r : Bool) : Type 0 where
   pub state : Walking J L
@@ -191,23 +199,17 @@ module _ {J : Job} {L : Locals} {x : ℕ} {r : Bool} (v : Looked J L x r) where
   pub choice-small : x < 5
   choice-small = omega (arith, x-within, v .state .fixed .few-cores)
 
-  -- x is entered
-  pub enters : not r ≡ false → Looked J L x true
-  enters f = rw (not-false r f) at v
-
-  -- x is not entered: the next choice of the same task follows
-  pub skips : not r ≡ true
-      → Walking J (locals (L .path) (L .loads) (L .best) (L .rejected) (L .bound) (L .steps) (L .depth) (L .next + 1))
-  skips f = record {
-    fixed = v .state .fixed;
-    chosen = v .state .chosen;
-    kept = v .state .kept;
-    progress =
-        let e = sym (v .tested) ∙ not-true r f in
-        rw add-one (progress-skip (problem J) (v .state .progress) (v .within) (rw (v .choice-is) at e));
-    next-within = omega (arith, v .within);
-    within = v .state .within;
-  }
+-- x is not entered: the next choice of the same task follows
+pub skips : {J : Job} {L : Locals} {x : ℕ} → Looked J L x false
+    → Walking J (locals (L .path) (L .loads) (L .best) (L .rejected) (L .bound) (L .steps) (L .depth) (L .next + 1))
+skips {J} v = record {
+  fixed = v .state .fixed;
+  chosen = v .state .chosen;
+  kept = v .state .kept;
+  progress = rw add-one (progress-skip (problem J) (v .state .progress) (v .within) (rw (v .choice-is) at (sym (v .tested))));
+  next-within = omega (arith, v .within);
+  within = v .state .within;
+}
 
 module _ {J : Job} {L : Locals} {x : ℕ} (v : Looked J L x true) where
   abbrev s : Walking J L

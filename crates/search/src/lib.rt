@@ -16,10 +16,11 @@ pub struct Found {
 // The walk itself. `path` holds the choices made, `loads` the demand on each choice, entry 0 the rejected demand,
 // `best` the stored placement, and `next` how many choices have been tried for the task at `depth`: the cores from 1
 // upward, then leaving it out.
-fn walk(demands: [u32; 16], n: u8, m: u32, h: u32, total: u32, excess: u32, limit: u32) -> Found
+fn walk(demands: [u32; 16], n: usize, m: u32, h: u32, total: u32, excess: u32, limit: u32) -> Found
     requires { ⌜ Prepared demands n m h total excess ⌝ }
     ensures { λ r. ⌜ r ≡ foundOf (answer (problemOf h m (take n demands)) limit) ⌝ }
 {
+    let deepest = n - 1;
     let mut path = [0u8; 16];
     let mut loads = [0u32; 5];
     let mut best = [0u8; 16];
@@ -27,14 +28,14 @@ fn walk(demands: [u32; 16], n: u8, m: u32, h: u32, total: u32, excess: u32, limi
     let mut bound = total + 1;
     let mut steps = 0u32;
     let mut spent = false;
-    let mut depth = 0u8;
+    let mut depth = 0usize;
     let mut next = 0u32;
     'tasks: loop {
         'choices: loop {
             let mut c = 0u32;
             if next < m {
-                let load = loads[next as usize + 1] + demands[depth as usize];
-                if !moves::enters_core(load, h, loads[0], excess, bound) {
+                let load = loads[next as usize + 1] + demands[depth];
+                if !moves::enters_core(load, h, loads[0], bound) {
                     next += 1;
                     continue 'choices;
                 }
@@ -44,16 +45,14 @@ fn walk(demands: [u32; 16], n: u8, m: u32, h: u32, total: u32, excess: u32, limi
                     continue 'choices;
                 }
                 c = next + 1;
-            } else if m < next
-                || !moves::improves(loads[0] + demands[depth as usize], excess, bound)
-            {
+            } else if m < next || bound <= loads[0] + demands[depth] {
                 // No choice is left: the walk is complete, or the task before takes its choice back.
                 if depth == 0 {
                     break 'tasks;
                 }
                 depth -= 1;
-                let last = path[depth as usize] as u32;
-                loads = moves::with_less(loads, last, demands[depth as usize]);
+                let last = path[depth] as u32;
+                loads = moves::with_less(loads, last, demands[depth]);
                 next = moves::tried_by(m, last);
                 break 'choices;
             }
@@ -63,17 +62,21 @@ fn walk(demands: [u32; 16], n: u8, m: u32, h: u32, total: u32, excess: u32, limi
                 break 'tasks;
             }
             steps += 1;
-            path = moves::with_choice(path, depth, c as u8);
-            if depth + 1 < n {
-                loads = moves::with_more(loads, c, demands[depth as usize]);
+            path = moves::with_choice(path, (depth % 256) as u8, c as u8);
+            if depth < deepest {
+                loads = moves::with_more(loads, c, demands[depth]);
                 depth += 1;
                 next = 0;
                 break 'choices;
             }
             // The last task's choice completes a placement.
             best = path;
-            rejected = loads[0] + moves::pick(c, 0, demands[depth as usize], 0);
+            rejected = loads[0] + moves::pick(c, 0, demands[depth], 0);
             bound = rejected;
+            // No placement rejects less than the excess: nothing is entered any more.
+            if bound <= excess {
+                break 'tasks;
+            }
             next += 1;
         }
     }
@@ -92,5 +95,5 @@ pub fn search(demands: [u32; 16], n: usize, m: usize, h: u32, limit: u32) -> Fou
 {
     let total = moves::total_demand(demands, n);
     let excess = moves::excess_of(total, m, h);
-    walk(demands, n as u8, m as u32, h, total, excess, limit)
+    walk(demands, n, m as u32, h, total, excess, limit)
 }

@@ -4,4 +4,4 @@ use Rattle.moves.proofs.enters_core.Statement.{statement}
 use Rattle.moves.proofs.enters_core.Tie as tie
 
 pub enters-core-spec : {M : Type 1} → statement M
-enters-core-spec = tie.close (tie.spec (λ c κs. search needs) (λ c. rw (c .improves .ensures)))
+enters-core-spec = tie.close (tie.spec (λ c. search needs))
