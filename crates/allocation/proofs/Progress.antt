@@ -13,7 +13,7 @@ use borrow.Author.Tests.{lt-ltb, le-ltb}
 use Rattle.allocation.specs.Placement.{Problem, total, rejected, excess}
 use Rattle.allocation.specs.Walk.{Step, inner, boundAfter, storedAfter, entered, choices, triedBy, trace, stored, answer, WalkAnswer}
 use Rattle.allocation.proofs.Steps.{boundAfter-append, storedAfter-append}
-use Rattle.allocation.proofs.Remaining.{remaining, remaining-start, remaining-skip, remaining-leaf, remaining-descend, remaining-back, remaining-end, remaining-over, remaining-take}
+use Rattle.allocation.proofs.Remaining.{remaining, remaining-start, remaining-skip, remaining-leaf, remaining-descend, remaining-back, remaining-end, remaining-over, remaining-closed, remaining-take}
 
 -- `made` are the steps so far: they account for the bound, the stored placement and the step count.
 pub record Progress (P : Problem) (path : List ℕ) (d j b : ℕ) (best : List ℕ) (steps : ℕ) : Type 0 where
@@ -45,6 +45,10 @@ module _ (P : Problem) where
     -- only the choices made matter
     pub progress-take : (path′ : List ℕ) → take d path ≡ take d path′ → Progress P path′ d j b best steps
     progress-take path′ e = same (remaining-take P path path′ d j b e)
+
+    -- no choice improves on what is rejected already
+    pub progress-closed : b ≤ rejected P (take d path) → Progress P path d (P .cores + 1) b best steps
+    progress-closed h = same (remaining-closed P path d j b h)
 
     -- the next step, s, is made
     stepped : (s : Step) {path′ : List ℕ} {d′ j′ b′ : ℕ} {best′ : List ℕ}

@@ -12,7 +12,7 @@ use Rattle.allocation.specs.Placement.{Problem, total, rejected, excess}
 use Rattle.allocation.specs.Walk.{Step, inner, leaf, stepInto, boundAfter, entered, tryAll, visit, choices, triedBy, trace}
 use Rattle.allocation.proofs.Order.{length-choices, tried-by-choice}
 use Rattle.allocation.proofs.Steps.{boundAfter-append}
-use Rattle.allocation.proofs.Sound.{try-skip, try-enter, try-over}
+use Rattle.allocation.proofs.Sound.{try-skip, try-enter, try-over, try-closed}
 
 -- ---- the steps that are left
 
@@ -81,6 +81,11 @@ module _ (P : Problem) where
     pub remaining-over : (d j : ℕ) → remaining path d j b ≡ []
     unfolding remaining boundAfter
     remaining-over d j = rw (level-over d j) (backlog-over d)
+
+  -- no choice of task d is left where the bound is at most what is rejected already
+  pub remaining-closed : (path : List ℕ) (d j b : ℕ) → b ≤ rejected P (take d path) → remaining path d j b ≡ remaining path d (m + 1) b
+  unfolding remaining level
+  remaining-closed path d j b h = rw (try-closed P _ _ (take d path) (drop j (choices m)) b h, try-closed P _ _ (take d path) (drop (m + 1) (choices m)) b h)
 
   -- choice number j of task d
   module _ (path : List ℕ) (d j b : ℕ) (within : j ≤ m) where

@@ -13,7 +13,7 @@ use borrow.Author.Count.{below-more}
 use borrow.Author.Tests.{ltb-true, le-ltb, leb-true, le-leb, ne-eqb}
 use Rattle.allocation.specs.Placement.{Problem, Feasible, rejected, load, excess}
 use Rattle.numbers.proofs.BoolLaws.{and-left, and-right, and-intro}
-use Rattle.numbers.proofs.LoadLaws.{demandOn-other}
+use Rattle.numbers.proofs.LoadLaws.{demandOn-other, demandOn-mono}
 use Rattle.allocation.specs.Rule.{tried}
 use Rattle.allocation.specs.Walk.{Step, stepInto, boundAfter, fits, improves, entered, tryAll, visit, choices}
 use Rattle.allocation.proofs.Order.{length-choices, choice-le}
@@ -81,10 +81,10 @@ module _ (P : Problem) where
     unfolding entered
     entered-rejects = omega (arith, ltb-true _ b (and-right (fits P p c && tried P p c) (improves P p c b) e))
 
-  -- no choice improves on a bound that is at most the excess
-  entered-over : (p : List ℕ) (c b : ℕ) → b ≤ excess P → entered P p c b ≡ false
+  -- no choice improves on a bound that is at most the excess, or at most what is rejected already
+  entered-not : (p : List ℕ) (c b : ℕ) → b ≤ max (rejected P (p ++ (c ∷ []))) (excess P) → entered P p c b ≡ false
   unfolding entered
-  entered-over p c b h = rw (le-ltb (max (rejected P (p ++ (c ∷ []))) (excess P)) b (omega arith)) (and-false (fits P p c && tried P p c))
+  entered-not p c b h = rw (le-ltb (max (rejected P (p ++ (c ∷ []))) (excess P)) b h) (and-false (fits P p c && tried P p c))
 
   module _ (k : ℕ) (below : List ℕ → ℕ → List Step) where
     pub try-skip : (p : List ℕ) (c : ℕ) (cs : List ℕ) (b : ℕ) → entered P p c b ≡ false → tryAll P k below p (c ∷ cs) b ≡ tryAll P k below p cs b
@@ -97,11 +97,16 @@ module _ (P : Problem) where
     unfolding tryAll
     try-enter p c cs b e = rw e
 
-    -- a bound that is at most the excess is not beaten
-    pub try-over : (p cs : List ℕ) (b : ℕ) → b ≤ excess P → tryAll P k below p cs b ≡ []
+    try-none : (p cs : List ℕ) (b : ℕ) → ((c : ℕ) → b ≤ max (rejected P (p ++ (c ∷ []))) (excess P)) → tryAll P k below p cs b ≡ []
     unfolding tryAll
-    try-over p [] b h = refl
-    try-over p (c ∷ cs) b h = try-skip p c cs b (entered-over p c b h) ∙ try-over p cs b h
+    try-none p [] b h = refl
+    try-none p (c ∷ cs) b h = try-skip p c cs b (entered-not p c b (h c)) ∙ try-none p cs b h
+
+    pub try-over : (p cs : List ℕ) (b : ℕ) → b ≤ excess P → tryAll P k below p cs b ≡ []
+    try-over p cs b h = try-none p cs b (λ c. omega arith)
+
+    pub try-closed : (p cs : List ℕ) (b : ℕ) → b ≤ rejected P p → tryAll P k below p cs b ≡ []
+    try-closed p cs b h = try-none p cs b (λ c. omega (arith, demandOn-mono 0 (P .demands) p (c ∷ [])))
 
     -- a property of what each entered choice completes is one of all that the choices complete
     try-sound : (Q : ℕ → List ℕ → Type 0) (p cs : List ℕ)

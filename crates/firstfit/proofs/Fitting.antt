@@ -1,23 +1,27 @@
 -- The loop over the tasks: what it has chosen so far is the beginning of first fit.
 use Prim.Native.Nat.{ℕ, suc, _+_, _-_, _≤_, _<_}
-use native.Mathlib.Nat.{le-trans}
+use native.Mathlib.Nat.{le-trans, le-refl, add-zero}
 use native.Mathlib.Decide.{ℕ-discrete}
-use native.Mathlib.Numerals.{add-one}
 use native.Mathlib.Omega.{arith}
 use mathlib.Core.Path.{_≡_, refl, sym, ap, _∙_}
+use mathlib.Core.Bool.{cond}
 use mathlib.Core.List.{List, [], _∷_, _++_}
 use mathlib.Core.Logic.{dite}
+use lib.Dec.{eqb}
 use lib.ListN.{length, getD, take, set, replicate, length-set, length-append}
 use lib.Seq.{getD-take, getD-set-same, getD-set-other, length-take-le}
 use borrow.Author.Tests.{ne-eqb}
 use Rattle.numbers.specs.First.{first}
 use Rattle.numbers.specs.Rows.{padded}
+use Rattle.numbers.proofs.BoolLaws.{cond-le}
 use Rattle.numbers.proofs.LoadLaws.{demandOn-none, demandOn-same, demandOn-other, demandOn-le-sum, sum-take-le}
 use Rattle.numbers.proofs.ZeroLaws.{zero-at, padded-next}
 use Rattle.allocation.specs.Placement.{Problem, problemOf, load, rejected}
 use Rattle.allocation.specs.Walk.{fits}
 use Rattle.allocation.specs.FirstFit.{lowestFit, fitFrom, firstFit}
 use Rattle.allocation.proofs.FirstFit.{next-le}
+use Rattle.moves.specs.Entry.{onCore}
+use Rattle.moves.proofs.OneCore.{row-changed}
 use Rattle.search.specs.Search.{Ranges}
 use Rattle.firstfit.specs.Fitted.{holds, fittedOf}
 use Rattle.firstfit.specs.declared.Fitted.{Fitted}
@@ -26,19 +30,19 @@ module _ (row : List ℕ) (n m h : ℕ) where
   abbrev P : Problem
   P = problemOf h m (take n row)
 
-  -- k tasks have their choice; the loads are theirs, and first fit goes on from them
-  pub record Fitting (placement loads : List ℕ) (k : ℕ) : Type 0 where
+  -- k tasks have their choice; the rejected demand `out` and the cores' loads are theirs, and first fit goes on from them
+  pub record Fitting (placement loads : List ℕ) (out k : ℕ) : Type 0 where
     pub ranges : Ranges row n m h
     pub row-long : length row ≡ 16
     pub top : k ≤ n
     pub chosen : List ℕ
     pub count : length chosen ≡ k
     pub placement-is : placement ≡ padded chosen
-    pub loads-long : length loads ≡ 5
-    pub loads-are : (c : ℕ) → getD loads c 0 ≡ load P c chosen
+    pub loads-long : length (out ∷ loads) ≡ 5
+    pub loads-are : (c : ℕ) → getD (out ∷ loads) c 0 ≡ load P c chosen
     pub left : fitFrom P (n - k) chosen ≡ firstFit P
 
-  pub fit-start : Ranges row n m h → length row ≡ 16 → Fitting (replicate 16 0) (replicate 5 0) 0
+  pub fit-start : Ranges row n m h → length row ≡ 16 → Fitting (replicate 16 0) (replicate 4 0) 0 0
   unfolding firstFit
   fit-start r e = record {
     ranges = r;
@@ -52,9 +56,13 @@ module _ (row : List ℕ) (n m h : ℕ) where
     left = ap (λ (k : ℕ). fitFrom P k []) (omega (arith, length-take-le n row (omega (arith, r .few))));
   }
 
-  module _ {placement loads : List ℕ} {k : ℕ} (s : Fitting placement loads k) where
+  module _ {placement loads : List ℕ} {out k : ℕ} (s : Fitting placement loads out k) where
+    -- the demand on each choice
+    abbrev on : List ℕ
+    on = out ∷ loads
+
     -- a sum of a load and a demand is a word
-    pub fit-room : (j i : ℕ) → getD loads j 0 + getD row i 0 < 4294967296
+    pub fit-room : (j i : ℕ) → getD on j 0 + getD row i 0 < 4294967296
     fit-room j i =
         omega (
           arith,
@@ -66,9 +74,13 @@ module _ (row : List ℕ) (n m h : ℕ) where
           s .ranges .small,
         )
 
+    -- and so is one of the rejected demand
+    pub out-room : (core : ℕ) {o : ℕ} → o ≡ cond (eqb core 0) (getD row k 0) 0 → out + o < 4294967296
+    out-room core e = omega (arith, fit-room 0 k, cond-le (eqb core 0) (getD row k 0) _ (le-refl _))
+
     module _ (below : k < n) where
       -- the next task's demand, on choice c
-      more : (c : ℕ) → load P c (s .chosen ++ (c ∷ [])) ≡ getD loads c 0 + getD row k 0
+      more : (c : ℕ) → load P c (s .chosen ++ (c ∷ [])) ≡ getD on c 0 + getD row k 0
       more c =
           demandOn-same c (take n row) (s .chosen) (omega (arith, s .count, length-take-le n row (omega (arith, s .ranges .few, s .row-long))))
           ∙ rw (s .count, getD-take n row k 0 below, s .loads-are c)
@@ -79,7 +91,7 @@ module _ (row : List ℕ) (n m h : ℕ) where
       fit-core = ap (λ test. first test m) (λ i j. same j i)
         where
           same : (j : ℕ) → holds loads (getD row k 0) h j ≡ fits P (s .chosen) (suc j)
-          same j = rw (ne-eqb (suc j) 0 (λ q. omega arith), add-one j, more (suc j))
+          same j = rw (ne-eqb (suc j) 0 (λ q. omega arith), more (suc j))
 
       module _ {core : ℕ} (e : core ≡ first (holds loads (getD row k 0) h) m) where
         chosen-is : core ≡ lowestFit P (s .chosen)
@@ -92,23 +104,26 @@ module _ (row : List ℕ) (n m h : ℕ) where
         unfolding fitFrom
         goes-on = let z : n - k ≡ suc (n - (k + 1)) = omega arith in rw chosen-is (rw z at (s .left))
 
-        pub fit-next : {placement′ loads′ : List ℕ} → loads′ ≡ set loads core (getD loads core 0 + getD row k 0) → placement′ ≡ set placement k core
-            → Fitting placement′ loads′ (k + 1)
-        fit-next x y = record {
+        pub fit-next : {placement′ loads′ : List ℕ} {o : ℕ} → loads′ ≡ onCore (λ y. y + getD row k 0) loads core → placement′ ≡ set placement k core
+            → o ≡ cond (eqb core 0) (getD row k 0) 0 → Fitting placement′ loads′ (out + o) (k + 1)
+        fit-next x y z = rw (x, z) record {
           ranges = s .ranges;
           row-long = s .row-long;
           top = omega arith;
           chosen = s .chosen ++ (core ∷ []);
           count = omega (arith, length-append (s .chosen) (core ∷ []), s .count);
           placement-is = rw (y, s .placement-is, ← s .count) (padded-next (s .chosen) core (omega (arith, s .count, s .ranges .few)));
-          loads-long = rw (x, length-set) (s .loads-long);
-          loads-are = λ c. rw x (dite (ℕ-discrete core c)
-              (λ q. rw (← q) (getD-set-same loads core _ 0 (omega (arith, core-small, s .loads-long)) ∙ sym (more core)))
-              (λ q. getD-set-other loads core c _ 0 (λ z. q (sym z)) ∙ s .loads-are c ∙ sym (demandOn-other c core q (take n row) (s .chosen))));
+          loads-long = ap length changed ∙ rw length-set (s .loads-long);
+          loads-are = λ c. ap (λ (l : List ℕ). getD l c 0) changed ∙ (dite (ℕ-discrete core c)
+              (λ q. rw (← q) (getD-set-same on core _ 0 (omega (arith, core-small, s .loads-long)) ∙ sym (more core)))
+              (λ q. getD-set-other on core c _ 0 (λ z. q (sym z)) ∙ s .loads-are c ∙ sym (demandOn-other c core q (take n row) (s .chosen))));
           left = goes-on;
         }
+          where
+            changed : (out + cond (eqb core 0) (getD row k 0) 0) ∷ onCore (λ y. y + getD row k 0) loads core ≡ set on core (getD on core 0 + getD row k 0)
+            changed = row-changed _+_ add-zero out loads core (getD row k 0)
 
-    pub fit-done : n ≤ k → _≡_ {A = Fitted} (record { placement = placement; rejected = getD loads 0 0 }) (fittedOf P)
+    pub fit-done : n ≤ k → _≡_ {A = Fitted} (record { placement = placement; rejected = out }) (fittedOf P)
     unfolding fittedOf fitFrom
     fit-done z =
         let e : n - k ≡ 0 = omega arith in

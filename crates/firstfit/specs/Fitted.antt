@@ -10,7 +10,7 @@ use Rattle.firstfit.specs.declared.Fitted.{Fitted}
 
 -- core k + 1 holds demand d beside its load: they are at most h
 abbrev pub holds : List ℕ → ℕ → ℕ → ℕ → Bool
-holds loads d h k = leb (entry loads (k + 1) + d) h
+holds loads d h k = leb (entry loads k + d) h
 
 -- first fit of a problem, as it is returned
 unfoldable pub fittedOf : Problem → Fitted

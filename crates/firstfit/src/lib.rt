@@ -14,22 +14,14 @@ pub struct Fitted {
     pub rejected: u32,
 }
 
-// Whether a core with this load holds demand d too.
-fn has_room(load: u32, d: u32, h: u32) -> bool
-    requires { ⌜ load + d < 4294967296 ⌝ }
-    ensures { λ r. ⌜ r ≡ leb (load + d) h ⌝ }
-{
-    load + d <= h
-}
-
 // The lowest of m cores that holds demand d beside its load; 0 if none does.
-fn lowest_core(loads: [u32; 5], d: u32, m: usize, h: u32) -> usize
-    requires { ⌜ (m ≤ 4) × ((k : ℕ) → getD loads k 0 + d < 4294967296) ⌝ }
+fn lowest_core(loads: [u32; 4], d: u32, m: usize, h: u32) -> usize
+    requires { ⌜ (m ≤ 4) × (d ≤ h) ⌝ }
     ensures { λ r. ⌜ r ≡ first (holds loads d h) m ⌝ }
 {
     let mut k = 0;
     while k < m {
-        if has_room(loads[k + 1], d, h) {
+        if moves::has_room(loads[k], d, h) {
             return k + 1;
         }
         k += 1;
@@ -37,25 +29,28 @@ fn lowest_core(loads: [u32; 5], d: u32, m: usize, h: u32) -> usize
     0
 }
 
-// First fit of n demands on m cores and the hyperperiod h. `loads` holds the demand on each core, entry 0 the rejected demand.
+// First fit of n demands on m cores and the hyperperiod h.
 pub fn first_fit(demands: [u32; 16], n: usize, m: usize, h: u32) -> Fitted
     requires { ⌜ Ranges demands n m h ⌝ }
     ensures { λ r. ⌜ r ≡ fittedOf (problemOf h m (take n demands)) ⌝ }
 {
     let mut placement = [0u8; 16];
-    let mut loads = [0u32; 5];
+    let mut loads = [0u32; 4];
+    let mut rejected = 0u32;
     let mut k = 0;
     while k < n {
         let d = demands[k];
         let core = lowest_core(loads, d, m, h);
-        let more = moves::with_more(loads, core as u32, d);
+        let choice = core as u32;
+        let more = moves::with_more(loads, choice, d);
         let next = numbers::with_byte(placement, k, core as u8);
+        rejected += moves::pick(choice, 0, d, 0);
         loads = more;
         placement = next;
         k += 1;
     }
     Fitted {
-        placement: placement,
-        rejected: loads[0],
+        placement,
+        rejected,
     }
 }

@@ -1,1 +1,2 @@
 pub mod OneEntry
+pub mod OneCore

@@ -50,8 +50,8 @@ module _ {f : ℕ → ℕ → ℕ} {l : List ℕ} {c d n : ℕ} {row : List ℕ}
         (λ q. change-pick h (rw (e, eq-eqb c k q, entry-was, q)))
         (λ q. change-pick h (rw (e, ne-eqb c k q) (none (getD row k 0))))
 
-    pub room-more : ((i : ℕ) → getD l i 0 + d < 4294967296) → getD row k 0 + p < 4294967296
-    room-more h = omega (arith, h k, entry-was, cond-le (eqb c k) d d (le-refl d))
+    pub room-more : getD l k 0 + d < 4294967296 → getD row k 0 + p < 4294967296
+    room-more h = omega (arith, entry-was, cond-le (eqb c k) d d (le-refl d))
 
     pub room-less : d ≤ getD l c 0 → p ≤ getD row k 0
     room-less h =

@@ -1,15 +1,16 @@
--- The tests of the entry rule, on numbers.
+-- What a move of the walk reads of a row of loads, and what it makes of it.
 use Prim.Native.Nat.{ℕ, zero, suc}
-use mathlib.Core.Bool.{Bool, false, _&&_, _||_}
+use mathlib.Core.Bool.{Bool, false, _||_}
 use mathlib.Core.List.{List}
-use lib.Dec.{eqb, leb, ltb}
-use lib.ListN.{getD}
+use lib.Dec.{eqb}
+use lib.ListN.{getD, set}
 
--- whether choice c has room and improves on the bound, where it makes its load `load` and the rejected demand `out`
-abbrev pub mayEnter : ℕ → ℕ → ℕ → ℕ → ℕ → Bool
-mayEnter c load h out bound = (eqb c 0 || leb load h) && ltb out bound
-
--- whether one of the entries 1 to k of a row is 0
+-- whether one of the first k entries of a row is 0
 unfoldable pub someZero : List ℕ → ℕ → Bool
 someZero l zero = false
-someZero l (suc k) = eqb (getD l (suc k) 0) 0 || someZero l k
+someZero l (suc k) = eqb (getD l k 0) 0 || someZero l k
+
+-- the cores' loads, core 1 first, once that of core c is changed by f; choice 0 is no core
+unfoldable pub onCore : (ℕ → ℕ) → List ℕ → ℕ → List ℕ
+onCore f loads zero = loads
+onCore f loads (suc k) = set loads k (f (getD loads k 0))

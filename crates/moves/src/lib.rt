@@ -1,12 +1,14 @@
-// What one move of the walk does: an array by value with one entry changed, the entry rule, and what the walk starts from.
+// What one move of the walk does: an array by value with one entry changed, the tests of a choice, and what the walk
+// starts from.
 ghost use mathlib.Core.Path.{_≡_};
-ghost use mathlib.Core.Bool.{cond, _&&_};
+ghost use mathlib.Core.Bool.{cond};
+ghost use mathlib.Core.List.{_∷_};
 ghost use Prim.Native.Nat.{ℕ, _+_, _*_, _-_, _<_, _≤_};
-ghost use lib.Dec.{eqb, ltb};
+ghost use lib.Dec.{eqb, leb};
 ghost use lib.ListN.{getD, set, take};
 ghost use Rattle.numbers.specs.Loads.{sum};
 ghost use Rattle.allocation.specs.Walk.{triedBy};
-ghost use Rattle.moves.specs.Entry.{mayEnter, someZero};
+ghost use Rattle.moves.specs.Entry.{onCore, someZero};
 
 // x where c is i, and y otherwise.
 pub fn pick(c: u32, i: u32, x: u32, y: u32) -> u32
@@ -37,28 +39,29 @@ pub fn with_choice(mut path: [u8; 16], at: u8, c: u8) -> [u8; 16]
     path
 }
 
-// The loads with demand d more on choice c.
-pub fn with_more(mut loads: [u32; 5], c: u32, d: u32) -> [u32; 5]
+// The cores' loads, core 1 first, with demand d more on core c; choice 0 is no core. Four entries, and no fifth for what
+// is rejected: so they are one aligned value of sixteen bytes, wherever the stack stands.
+pub fn with_more(mut loads: [u32; 4], c: u32, d: u32) -> [u32; 4]
     requires { ⌜ (c < 5) × ((k : ℕ) → getD loads k 0 + d < 4294967296) ⌝ }
-    ensures { λ r. ⌜ r ≡ set loads c (getD loads c 0 + d) ⌝ }
+    ensures { λ r. ⌜ r ≡ onCore (λ x. x + d) loads c ⌝ }
 {
     let mut k: u32 = 0;
-    while k < 5 {
-        let entry = loads[k as usize] + pick(c, k, d, 0);
+    while k < 4 {
+        let entry = loads[k as usize] + pick(c, k + 1, d, 0);
         loads[k as usize] = entry;
         k += 1;
     }
     loads
 }
 
-// The loads with demand d less on choice c.
-pub fn with_less(mut loads: [u32; 5], c: u32, d: u32) -> [u32; 5]
-    requires { ⌜ (c < 5) × (d ≤ getD loads c 0) ⌝ }
-    ensures { λ r. ⌜ r ≡ set loads c (getD loads c 0 - d) ⌝ }
+// The same with demand d less.
+pub fn with_less(mut loads: [u32; 4], c: u32, d: u32) -> [u32; 4]
+    requires { ⌜ (c < 5) × (d ≤ getD (d ∷ loads) c 0) ⌝ }
+    ensures { λ r. ⌜ r ≡ onCore (λ x. x - d) loads c ⌝ }
 {
     let mut k: u32 = 0;
-    while k < 5 {
-        let entry = loads[k as usize] - pick(c, k, d, 0);
+    while k < 4 {
+        let entry = loads[k as usize] - pick(c, k + 1, d, 0);
         loads[k as usize] = entry;
         k += 1;
     }
@@ -66,30 +69,42 @@ pub fn with_less(mut loads: [u32; 5], c: u32, d: u32) -> [u32; 5]
 }
 
 // How many choices have been tried once c has been.
-pub fn tried_by(m: u32, c: u32) -> u32
+fn tried_by(m: u32, c: u32) -> u32
     requires { ⌜ m ≤ 4 ⌝ }
     ensures { λ r. ⌜ r ≡ triedBy m c ⌝ }
 {
     if c == 0 { m + 1 } else { c }
 }
 
-// Whether a core has room for a task that makes its load `load`, and `out`, what is rejected, may still improve on the
-// stored placement.
-pub fn enters_core(load: u32, h: u32, out: u32, bound: u32) -> bool
-    ensures { λ r. ⌜ r ≡ mayEnter 1 load h out bound ⌝ }
+// How many choices count as tried once c is taken back, where `out` is rejected: all of them, if that is not below the
+// bound, since no choice rejects less.
+pub fn resume(m: u32, c: u32, out: u32, bound: u32) -> u32
+    requires { ⌜ m ≤ 4 ⌝ }
+    ensures { λ r. ⌜ r ≡ cond (leb bound out) (m + 1) (triedBy m c) ⌝ }
 {
-    (load <= h) & (out < bound)
+    if bound <= out {
+        return m + 1;
+    }
+    tried_by(m, c)
+}
+
+// Whether a core with this load holds demand d too.
+pub fn has_room(load: u32, d: u32, h: u32) -> bool
+    requires { ⌜ d ≤ h ⌝ }
+    ensures { λ r. ⌜ r ≡ leb (load + d) h ⌝ }
+{
+    load <= h - d
 }
 
 // Whether one of the cores 1 to k is empty.
-pub fn some_empty(loads: &[u32; 5], k: u32) -> bool
-    requires { ⌜ k < 5 ⌝ }
+pub fn some_empty(loads: &[u32; 4], k: u32) -> bool
+    requires { ⌜ k ≤ 4 ⌝ }
     ensures { λ r. ⌜ r ≡ someZero (now (loads .entry)) k ⌝ }
 {
     let mut c = k;
     while 0 < c {
         c -= 1;
-        if loads[c as usize + 1] == 0 {
+        if loads[c as usize] == 0 {
             return true;
         }
     }

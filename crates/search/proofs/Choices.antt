@@ -17,9 +17,9 @@ use Rattle.allocation.specs.Placement.{problemOf, total, excess}
 use Rattle.allocation.specs.Rule.{isEmpty, someEmpty, tried}
 use Rattle.allocation.specs.Walk.{entered}
 use Rattle.allocation.proofs.Order.{choice-core, choice-none}
-use Rattle.moves.specs.Entry.{mayEnter, someZero}
+use Rattle.moves.specs.Entry.{someZero}
 use Rattle.search.specs.Search.{Ranges}
-use Rattle.search.proofs.State.{Job, problem, Fixed, Locals, locals, Walking, Looked, load-next}
+use Rattle.search.proofs.State.{Job, problem, Fixed, Locals, locals, held, Walking, Looked, load-next}
 
 -- what the search leaves unchanged, in the order of the code
 abbrev pub job : List ℕ → ℕ → ℕ → ℕ → ℕ → Job
@@ -55,14 +55,14 @@ module _ {J : Job} {L : Locals} (s : Walking J L) where
 
   -- the walk's test on the code's numbers, while the excess is below the bound
   test-is : {over : ℕ} → over ≡ excess (problem J) → over < L .bound → (x : ℕ)
-      → let out = getD (L .loads) 0 0 + cond (eqb x 0) demand 0 in
+      → let out = L .out + cond (eqb x 0) demand 0 in
       entered (problem J) node x (L .bound)
-      ≡ (mayEnter x (getD (L .loads) x 0 + demand) (J .capacity) out (L .bound) && tried (problem J) node x)
+      ≡ (((eqb x 0 || leb (getD (held L) x 0 + demand) (J .capacity)) && ltb out (L .bound)) && tried (problem J) node x)
   unfolding entered
   test-is ex low x =
-      let out = getD (L .loads) 0 0 + cond (eqb x 0) demand 0 in
+      let out = L .out + cond (eqb x 0) demand 0 in
       rw (load-next s x x, eq-eqb x x refl, load-next s x 0, ltb-max out (excess (problem J)) (L .bound) (rw ex at low))
-      (and-swap (eqb x 0 || leb (getD (L .loads) x 0 + demand) (J .capacity)) (tried (problem J) node x) (ltb out (L .bound)))
+      (and-swap (eqb x 0 || leb (getD (held L) x 0 + demand) (J .capacity)) (tried (problem J) node x) (ltb out (L .bound)))
 
   -- the rule on the code's numbers
   some-empty-is : (k : ℕ) → someZero (L .loads) k ≡ someEmpty (problem J) node k
@@ -70,30 +70,34 @@ module _ {J : Job} {L : Locals} (s : Walking J L) where
   some-empty-is zero = refl
   some-empty-is (suc k) = rw (s .chosen .loads-are (suc k), some-empty-is k)
 
+  -- entry 0 is what is rejected
+  held-core : getD (held L) (L .next + 1) 0 ≡ getD (L .loads) (L .next) 0
+  held-core = rw (add-one (L .next))
+
   module _ (k : L .next < J .cores) where
     tried-is : {e : Bool} → e ≡ someZero (L .loads) (L .next)
-        → tried (problem J) node (L .next + 1) ≡ not (eqb (getD (L .loads) (L .next + 1) 0) 0 && e)
+        → tried (problem J) node (L .next + 1) ≡ not (eqb (getD (L .loads) (L .next) 0) 0 && e)
     unfolding tried isEmpty
     tried-is f = rw (add-one (L .next), s .chosen .loads-are (suc (L .next)), f, some-empty-is (L .next))
 
     -- core next + 1 is looked at
-    module _ {over : ℕ} (ex : over ≡ excess (problem J)) (low : over < L .bound) {r : Bool}
-        (fits : r ≡ mayEnter 1 (getD (L .loads) (L .next + 1) 0 + demand) (J .capacity) (getD (L .loads) 0 0) (L .bound)) where
+    module _ {over : ℕ} (ex : over ≡ excess (problem J)) (low : over < L .bound) (out-below : L .next ≤ J .cores → L .out < L .bound)
+        {r : Bool} (fits : r ≡ leb (getD (L .loads) (L .next) 0 + demand) (J .capacity)) where
       core-looked : {t : Bool} → (r && tried (problem J) node (L .next + 1)) ≡ t → Looked J L (L .next + 1) t
       core-looked e = record {
         state = s;
         within = omega arith;
         choice-is = add-one (L .next) ∙ sym (choice-core (J .cores) (L .next) k);
-        tested = sym (test-is ex low (L .next + 1) ∙ rw (ne-eqb (L .next + 1) 0 (λ z. omega arith), add-zero, ← fits) e);
+        tested = sym (test-is ex low (L .next + 1) ∙ rw (ne-eqb (L .next + 1) 0 (λ z. omega arith), add-zero, held-core, ← fits, lt-ltb (L .out) (L .bound) (out-below (omega arith)), and-true) e);
       }
 
-      -- it has no room for the task, or would not improve
+      -- it has no room for the task
       pub core-unfit : not r ≡ true → Looked J L (L .next + 1) false
       core-unfit e = core-looked (rw (not-true r e))
 
       module _ (may : not r ≡ false) where
         -- it is empty, and so is a lower core
-        pub core-passed : getD (L .loads) (L .next + 1) 0 ≡ 0 → {e : Bool} → e ≡ someZero (L .loads) (L .next)
+        pub core-passed : getD (L .loads) (L .next) 0 ≡ 0 → {e : Bool} → e ≡ someZero (L .loads) (L .next)
             → e ≡ true → Looked J L (L .next + 1) false
         core-passed z f t = core-looked (rw (not-false r may, tried-is f, eq-eqb _ 0 z, t))
 
@@ -102,7 +106,7 @@ module _ {J : Job} {L : Locals} (s : Walking J L) where
             → e ≡ false → Looked J L (L .next + 1) true
         core-lowest f t = core-looked (rw (not-false r may, tried-is f, t, and-false))
 
-        pub core-used : (getD (L .loads) (L .next + 1) 0 ≡ 0 → ⊥) → Looked J L (L .next + 1) true
+        pub core-used : (getD (L .loads) (L .next) 0 ≡ 0 → ⊥) → Looked J L (L .next + 1) true
         core-used n = core-looked (rw (not-false r may, tried-is refl, ne-eqb _ 0 n))
 
   none-tried : tried (problem J) node 0 ≡ true
@@ -111,15 +115,10 @@ module _ {J : Job} {L : Locals} (s : Walking J L) where
 
   -- leaving the task out is looked at
   pub none-looked : J .cores ≤ L .next → L .next ≤ J .cores → {over : ℕ} → over ≡ excess (problem J) → over < L .bound
-      → {r : Bool} → leb (L .bound) (getD (L .loads) 0 0 + demand) ≡ r → Looked J L 0 (not r)
+      → {r : Bool} → leb (L .bound) (L .out + demand) ≡ r → Looked J L 0 (not r)
   none-looked g k ex low e = record {
     state = s;
     within = k;
     choice-is = let q : L .next ≡ J .cores = omega arith in rw q (sym (choice-none (J .cores)));
-    tested = rw (test-is ex low 0, none-tried, and-true, ← e) (not-leb (L .bound) (getD (L .loads) 0 0 + demand));
+    tested = rw (test-is ex low 0, none-tried, and-true, ← e) (not-leb (L .bound) (L .out + demand));
   }
-
-  -- no choice is left
-  pub past : {j : ℕ} → L .next ≡ j
-      → Walking J (locals (L .path) (L .loads) (L .best) (L .rejected) (L .bound) (L .steps) (L .depth) j)
-  past e = rw (← e) s

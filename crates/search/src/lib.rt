@@ -13,16 +13,17 @@ pub struct Found {
     pub spent: bool,
 }
 
-// The walk itself. `path` holds the choices made, `loads` the demand on each choice, entry 0 the rejected demand,
-// `best` the stored placement, and `next` how many choices have been tried for the task at `depth`: the cores from 1
-// upward, then leaving it out.
+// The walk itself. `path` holds the choices made, `loads` the cores' loads, `out` the rejected demand, `best` the stored
+// placement, and `next` how many choices have been tried for the task at `depth`: the cores from 1 upward, then leaving
+// it out.
 fn walk(demands: [u32; 16], n: usize, m: u32, h: u32, total: u32, excess: u32, limit: u32) -> Found
     requires { ⌜ Prepared demands n m h total excess ⌝ }
     ensures { λ r. ⌜ r ≡ foundOf (answer (problemOf h m (take n demands)) limit) ⌝ }
 {
     let deepest = n - 1;
     let mut path = [0u8; 16];
-    let mut loads = [0u32; 5];
+    let mut loads = [0u32; 4];
+    let mut out = 0u32;
     let mut best = [0u8; 16];
     let mut rejected = total;
     let mut bound = total + 1;
@@ -34,18 +35,17 @@ fn walk(demands: [u32; 16], n: usize, m: u32, h: u32, total: u32, excess: u32, l
         'choices: loop {
             let mut c = 0u32;
             if next < m {
-                let load = loads[next as usize + 1] + demands[depth];
-                if !moves::enters_core(load, h, loads[0], bound) {
+                if !moves::has_room(loads[next as usize], demands[depth], h) {
                     next += 1;
                     continue 'choices;
                 }
                 // An empty core is passed over where a lower one is empty too.
-                if loads[next as usize + 1] == 0 && moves::some_empty(&loads, next) {
+                if loads[next as usize] == 0 && moves::some_empty(&loads, next) {
                     next += 1;
                     continue 'choices;
                 }
                 c = next + 1;
-            } else if m < next || bound <= loads[0] + demands[depth] {
+            } else if m < next || bound <= out + demands[depth] {
                 // No choice is left: the walk is complete, or the task before takes its choice back.
                 if depth == 0 {
                     break 'tasks;
@@ -53,7 +53,8 @@ fn walk(demands: [u32; 16], n: usize, m: u32, h: u32, total: u32, excess: u32, l
                 depth -= 1;
                 let last = path[depth] as u32;
                 loads = moves::with_less(loads, last, demands[depth]);
-                next = moves::tried_by(m, last);
+                out -= moves::pick(last, 0, demands[depth], 0);
+                next = moves::resume(m, last, out, bound);
                 break 'choices;
             }
             // Choice c is entered.
@@ -65,19 +66,21 @@ fn walk(demands: [u32; 16], n: usize, m: u32, h: u32, total: u32, excess: u32, l
             path = moves::with_choice(path, (depth % 256) as u8, c as u8);
             if depth < deepest {
                 loads = moves::with_more(loads, c, demands[depth]);
+                out += moves::pick(c, 0, demands[depth], 0);
                 depth += 1;
                 next = 0;
                 break 'choices;
             }
             // The last task's choice completes a placement.
             best = path;
-            rejected = loads[0] + moves::pick(c, 0, demands[depth], 0);
+            rejected = out + moves::pick(c, 0, demands[depth], 0);
             bound = rejected;
             // No placement rejects less than the excess: nothing is entered any more.
             if bound <= excess {
                 break 'tasks;
             }
-            next += 1;
+            // No further choice of the last task rejects less.
+            next = m + 1;
         }
     }
     Found {

@@ -15,5 +15,5 @@ abbrev μ-loop : tie.MeasureT-loop
 pub lowest-core-spec : {M : Type 1} → statement M
 lowest-core-spec =
     tie.close (tie.spec Inv-loop μ-loop (λ c. search (needs, seek-start)) (λ c. search needs) (λ c. search needs)
-    (λ c. search needs) (λ c κs. c .before .before .pre .1 _) (λ c. search needs) (λ c. search (needs, looked-found)) (λ c. search needs)
+    (λ c κs. search needs) (λ c. search needs) (λ c. search (needs, looked-found)) (λ c. search needs)
     (λ c. search needs) (λ c. search (needs, looked-on)) (λ c. search (needs, seek-none)))

@@ -1,4 +1,4 @@
--- The loop's invariant: whether an entry is 0 is decided among those from 1 to c.
+-- The loop's invariant: whether an entry is 0 is decided among the first c.
 use Prim.Native.Nat.{ℕ, zero, suc, _+_, _-_, _≤_, _<_}
 use native.Mathlib.Omega.{arith}
 use mathlib.Core.Path.{_≡_, refl, sym, _∙_}
@@ -17,19 +17,15 @@ Inv-loop loads k c₀ c = (c ≤ k) × (someZero loads k ≡ someZero loads c)
 abbrev μ-loop : tie.MeasureT-loop
 μ-loop loads k c₀ c = c
 
--- the next entry looked at
-next : (c : ℕ) → suc c - 1 + 1 ≡ suc c
-next c = omega arith
-
-found : (l : List ℕ) (c : ℕ) → 0 < c → getD l (c - 1 + 1) 0 ≡ 0 → someZero l c ≡ true
+found : (l : List ℕ) (c : ℕ) → 0 < c → getD l (c - 1) 0 ≡ 0 → someZero l c ≡ true
 unfolding someZero
 found l zero h e = absurd (omega arith)
-found l (suc c) h e = rw (eq-eqb _ 0 (rw (next c) at e))
+found l (suc c) h e = let q : suc c - 1 ≡ c = omega arith in rw (eq-eqb _ 0 (rw q at e))
 
-passed : (l : List ℕ) (c : ℕ) → 0 < c → (getD l (c - 1 + 1) 0 ≡ 0 → ⊥) → someZero l c ≡ someZero l (c - 1)
+passed : (l : List ℕ) (c : ℕ) → 0 < c → (getD l (c - 1) 0 ≡ 0 → ⊥) → someZero l c ≡ someZero l (c - 1)
 unfolding someZero
 passed l zero h n = absurd (omega arith)
-passed l (suc c) h n = let e : suc c - 1 ≡ c = omega arith in rw (ne-eqb _ 0 (rw (next c) at n), e)
+passed l (suc c) h n = let q : suc c - 1 ≡ c = omega arith in rw (ne-eqb _ 0 (rw q at n), q)
 
 none : (l : List ℕ) (c : ℕ) → c ≤ 0 → someZero l c ≡ false
 unfolding someZero
@@ -52,4 +48,4 @@ returns-2 c = sym (c .before .loop .inv .1 ∙ none _ (c .before .loop .c) (omeg
 pub some-empty-spec : {M : Type 1} → statement M
 some-empty-spec =
     tie.close (tie.spec Inv-loop μ-loop (λ c. search needs) (λ c. search needs) (λ c. search needs) (λ c. search needs)
-    (λ c. search needs) (λ c. search needs) returns (λ c. search needs) loop-again returns-2)
+    (λ c. search needs) returns (λ c. search needs) loop-again returns-2)

@@ -1,34 +1,31 @@
 -- What is left of the walk follows from the loops' variables; each move makes one step of it, or none.
-use Prim.Native.Nat.{_+_, _*_, _-_, _≤_, _<_}
+use Prim.Native.Nat.{suc, _+_, _*_, _-_, _≤_, _<_}
 use mathlib.Core.Path.{_≡_, refl}
 use mathlib.Core.Bool.{true, false}
 use mathlib.Core.Logic.{⊎-elim}
 use native.Mathlib.Omega.{arith}
 use borrow.Author.Needs.{needs}
-use lib.Dec.{eqb}
-use lib.ListN.{getD}
-use Rattle.numbers.proofs.BoolLaws.{cond-le}
-use native.Mathlib.Nat.{le-refl}
-use Rattle.search.proofs.State.{locals, Walking, walk-start, walk-done, walk-over, walk-back, one-less, last-small, last-enough}
-use Rattle.search.proofs.State.{depth-small, depth-byte, load-small, Looked, choice-small, skips, stops, more, stores, descends, one-choice-less, one-step-less, no-fewer}
-use Rattle.search.proofs.Choices.{job, total-small, ranges-fixed, core-unfit, core-passed, core-lowest, core-used, none-looked, past}
+use Rattle.search.proofs.State.{locals, Walking, walk-start, walk-done, walk-over, past, walk-back, may-improve, one-less, last-small, last-core, last-out}
+use Rattle.search.proofs.State.{depth-small, depth-byte, load-small, out-small, Looked, choice-small, skips, improves, stops, more, stores, descends, no-choice-left, one-step-less, no-fewer}
+use Rattle.search.proofs.Choices.{job, total-small, ranges-fixed, core-unfit, core-passed, core-lowest, core-used, none-looked}
 use Rattle.search.proofs.walk.Statement.{statement}
 use Rattle.search.proofs.walk.Tie as tie
 
+-- The excess is below the bound, and so is what is rejected wherever a choice is left.
 abbrev Inv-choices : tie.InvT-choices
-Inv-choices n m h total excess limit demands deepest path₀ loads₀ best₀ rejected₀ bound₀ steps₀ spent₀ depth₀ next₀ path loads best rejected bound steps spent depth next =
-    Walking (job demands n m h limit) (locals path loads best rejected bound steps depth next) × (depth ≡ depth₀) × (steps₀ ≤ steps) × (spent ≡ false) × (excess < bound)
+Inv-choices n m h total excess limit demands deepest path₀ loads₀ out₀ best₀ rejected₀ bound₀ steps₀ spent₀ depth₀ next₀ path loads out best rejected bound steps spent depth next =
+    Walking (job demands n m h limit) (locals path loads out best rejected bound steps depth next) × (depth ≡ depth₀) × (steps₀ ≤ steps) × (spent ≡ false) × (excess < bound) × (next ≤ m → out < bound)
 
 abbrev μ-choices : tie.MeasureT-choices
-μ-choices n m h total excess limit demands deepest path₀ loads₀ best₀ rejected₀ bound₀ steps₀ spent₀ depth₀ next₀ path loads best rejected bound steps spent depth next =
+μ-choices n m h total excess limit demands deepest path₀ loads₀ out₀ best₀ rejected₀ bound₀ steps₀ spent₀ depth₀ next₀ path loads out best rejected bound steps spent depth next =
     m + 2 - next
 
 abbrev Inv-tasks : tie.InvT-tasks
-Inv-tasks n m h total excess limit demands deepest path₀ loads₀ best₀ rejected₀ bound₀ steps₀ spent₀ depth₀ next₀ path loads best rejected bound steps spent depth next =
-    Walking (job demands n m h limit) (locals path loads best rejected bound steps depth next) × (spent ≡ false) × (excess < bound)
+Inv-tasks n m h total excess limit demands deepest path₀ loads₀ out₀ best₀ rejected₀ bound₀ steps₀ spent₀ depth₀ next₀ path loads out best rejected bound steps spent depth next =
+    Walking (job demands n m h limit) (locals path loads out best rejected bound steps depth next) × (spent ≡ false) × (excess < bound) × (next ≤ m → out < bound)
 
 abbrev μ-tasks : tie.MeasureT-tasks
-μ-tasks n m h total excess limit demands deepest path₀ loads₀ best₀ rejected₀ bound₀ steps₀ spent₀ depth₀ next₀ path loads best rejected bound steps spent depth next =
+μ-tasks n m h total excess limit demands deepest path₀ loads₀ out₀ best₀ rejected₀ bound₀ steps₀ spent₀ depth₀ next₀ path loads out best rejected bound steps spent depth next =
     2 * (limit - steps) + depth
 
 -- the choice that is entered, where the ways to it have met
@@ -36,7 +33,7 @@ entering : (c : tie.Joined1 Inv-choices μ-choices Inv-tasks μ-tasks)
     → let a = c .before .before .before .args in
     let l = c .before .choices in
     Looked (job (a .t1) (a .n) (a .m) (a .h) (a .limit))
-    (locals (l .path) (l .loads) (l .best) (l .rejected) (l .bound) (l .steps) (l .depth) (l .next)) (c .if1 .c) true
+    (locals (l .path) (l .loads) (l .out) (l .best) (l .rejected) (l .bound) (l .steps) (l .depth) (l .next)) (c .if1 .c) true
 entering c =
     let l = c .before .choices in
     let e = c .before .before .before .pre .excess-is in
@@ -44,8 +41,8 @@ entering c =
     ⊎-elim
     (λ w. let core = l .inv .0 in
     rw (w .4) (⊎-elim
-    (λ v. core-lowest core (w .0 .taken) e low (w .1 .ensures) (w .2 .left) (v .2 .ensures) (v .3 .left))
-    (λ v. core-used core (w .0 .taken) e low (w .1 .ensures) (w .2 .left) (v .left))
+    (λ v. core-lowest core (w .0 .taken) e low (l .inv .5) (w .1 .ensures) (w .2 .left) (v .2 .ensures) (v .3 .left))
+    (λ v. core-used core (w .0 .taken) e low (l .inv .5) (w .1 .ensures) (w .2 .left) (v .left))
     (w .3 .came)))
     (λ w. rw (w .3) (none-looked (l .inv .0) (w .0 .left) (w .1 .left) e low (w .2 .left)))
     (c .if1 .came)
@@ -55,7 +52,7 @@ none-left : (c : tie.Joined5 Inv-choices μ-choices Inv-tasks μ-tasks)
     → let a = c .before .before .before .before .args in
     let l = c .before .before .choices in
     Walking (job (a .t1) (a .n) (a .m) (a .h) (a .limit))
-    (locals (l .path) (l .loads) (l .best) (l .rejected) (l .bound) (l .steps) (l .depth) (a .m + 1))
+    (locals (l .path) (l .loads) (l .out) (l .best) (l .rejected) (l .bound) (l .steps) (l .depth) (a .m + 1))
 none-left c =
     let l = c .before .before .choices in
     let e = c .before .before .before .before .pre .excess-is in
@@ -71,23 +68,23 @@ tasks-holds : tie.Need-tasks-holds Inv-choices μ-choices Inv-tasks μ-tasks
 tasks-holds c =
     let a = c .args in
     let g = c .pre .ranges in
-    (walk-start (job (a .t1) (a .n) (a .m) (a .h) (a .limit)) (ranges-fixed g (search needs)) (g .some) _ (c .pre .total-is), refl, omega (arith, c .pre .total-is, c .pre .excess-is))
+    (walk-start (job (a .t1) (a .n) (a .m) (a .h) (a .limit)) (ranges-fixed g (search needs)) (g .some) _ (c .pre .total-is), refl, omega (arith, c .pre .total-is, c .pre .excess-is), λ h. omega arith)
 
-add-load-2 : tie.Need-add-load-2 Inv-choices μ-choices Inv-tasks μ-tasks
-add-load-2 c = omega (arith, load-small (c .before .choices .inv .0) (c .before .choices .next + 1))
+has-room-requires : tie.Need-has-room-requires Inv-choices μ-choices Inv-tasks μ-tasks
+has-room-requires c κs = c .before .before .before .pre .ranges .each (c .before .choices .depth)
 
 choices-again : tie.Need-choices-again Inv-choices μ-choices Inv-tasks μ-tasks
 choices-again c =
     let l = c .before .before .before .choices in
     let e = c .before .before .before .before .before .pre .excess-is in
-    (skips (core-unfit (l .inv .0) (c .before .before .if1 .taken) e (l .inv .4) (c .before .enters-core .ensures) (c .if2 .taken)), l .inv .1, l .inv .2, l .inv .3, l .inv .4)
+    (skips (core-unfit (l .inv .0) (c .before .before .if1 .taken) e (l .inv .4) (l .inv .5) (c .before .has-room .ensures) (c .if2 .taken)), l .inv .1, l .inv .2, l .inv .3, l .inv .4, λ h. l .inv .5 (omega arith))
 
 choices-again-2 : tie.Need-choices-again-2 Inv-choices μ-choices Inv-tasks μ-tasks
 choices-again-2 c =
     let g = c .before .before .before .before .before in
     let l = g .before .before .choices in
     let e = g .before .before .before .before .pre .excess-is in
-    (skips (core-passed (l .inv .0) (g .before .if1 .taken) e (l .inv .4) (g .enters-core .ensures) (c .before .before .before .before .if2 .left) (c .before .before .before .if3 .taken) (c .before .some-empty .ensures) (c .if4 .taken)), l .inv .1, l .inv .2, l .inv .3, l .inv .4)
+    (skips (core-passed (l .inv .0) (g .before .if1 .taken) e (l .inv .4) (l .inv .5) (g .has-room .ensures) (c .before .before .before .before .if2 .left) (c .before .before .before .if3 .taken) (c .before .some-empty .ensures) (c .if4 .taken)), l .inv .1, l .inv .2, l .inv .3, l .inv .4, λ h. l .inv .5 (omega arith))
 
 add-if6 : tie.Need-add-if6 Inv-choices μ-choices Inv-tasks μ-tasks
 add-if6 c = omega (arith, load-small (c .before .before .choices .inv .0) 0)
@@ -98,14 +95,20 @@ cast-last c = omega (arith, last-small (c .before .before .before .choices .inv 
 with-less-requires : tie.Need-with-less-requires Inv-choices μ-choices Inv-tasks μ-tasks
 with-less-requires c κs =
     let s = c .before .before .before .choices .inv .0 in
-    (last-small s (one-less (c .if7 .left)) refl, last-enough s (one-less (c .if7 .left)) refl)
+    let f = one-less (c .if7 .left) in
+    (last-small s f refl, last-core s f refl)
+
+sub-out : tie.Need-sub-out Inv-choices μ-choices Inv-tasks μ-tasks
+sub-out c =
+    let g = c .before .before in
+    omega (arith, c .pick .ensures, last-out (g .before .before .before .choices .inv .0) (one-less (g .if7 .left)) refl)
 
 tasks-again : tie.Need-tasks-again Inv-choices μ-choices Inv-tasks μ-tasks
 tasks-again c =
-    let g = c .before .before .before in
-    let f = one-less (c .before .before .if7 .left) in
+    let g = c .before .before .before .before in
+    let f = one-less (c .before .before .before .if7 .left) in
     let t = g .before .before .choices .inv in
-    (walk-back (none-left g) f refl (omega arith) (c .before .with-less .ensures) (c .tried-by .ensures), t .3, t .4)
+    (walk-back (none-left g) f refl (omega arith) (c .before .before .with-less .ensures) (c .before .pick .ensures) (c .resume .ensures), t .3, t .4, may-improve _ _ _ _ _ (c .resume .ensures))
 
 cast-with-choice-2 : tie.Need-cast-with-choice-2 Inv-choices μ-choices Inv-tasks μ-tasks
 cast-with-choice-2 c = omega (arith, choice-small (entering (c .before .before)))
@@ -118,47 +121,51 @@ with-choice-requires c κs =
 with-more-requires : tie.Need-with-more-requires Inv-choices μ-choices Inv-tasks μ-tasks
 with-more-requires c κs =
     let v = entering (c .before .before .before .before) in
-    (choice-small v, λ k. omega (arith, load-small (v .state) k))
+    (choice-small v, λ k. omega (arith, load-small (v .state) (suc k)))
+
+add-out : tie.Need-add-out Inv-choices μ-choices Inv-tasks μ-tasks
+add-out c =
+    let g = c .before .before .before .before .before .before in
+    omega (arith, out-small (g .before .choices .inv .0) (g .if1 .c) (c .pick2 .ensures))
 
 tasks-less-2 : tie.Need-tasks-less-2 Inv-choices μ-choices Inv-tasks μ-tasks
 tasks-less-2 c =
-    let g = c .before .before .before .before .before in
+    let g = c .before .before .before .before .before .before in
     let t = g .before .choices .inv in
-    one-step-less (t .2) (more (entering g) (c .before .before .before .before .if8 .left)) (t .1)
+    one-step-less (t .2) (more (entering g) (c .before .before .before .before .before .if8 .left)) (t .1)
 
 tasks-again-2 : tie.Need-tasks-again-2 Inv-choices μ-choices Inv-tasks μ-tasks
 tasks-again-2 c =
-    let g = c .before .before .before .before .before in
+    let g = c .before .before .before .before .before .before in
     let v = entering g in
     let t = g .before .choices .inv in
-    (descends v (c .before .before .before .before .if8 .left) (omega (arith, c .before .if9 .taken)) (rw (depth-byte (v .state)) at (c .before .before .with-choice .ensures)) (c .with-more .ensures), t .3, t .4)
+    (descends v (c .before .before .before .before .before .if8 .left) (omega (arith, c .before .before .if9 .taken)) (rw (depth-byte (v .state)) at (c .before .before .before .with-choice .ensures)) (c .before .with-more .ensures) (c .pick2 .ensures), t .3, t .4, λ h. improves v (c .pick2 .ensures))
 
 add-rejected : tie.Need-add-rejected Inv-choices μ-choices Inv-tasks μ-tasks
 add-rejected c =
     let g = c .before .before .before .before .before in
-    let l = g .before .choices in
-    omega (arith, load-small (l .inv .0) 0, c .pick .ensures, cond-le (eqb (g .if1 .c) 0) (getD (g .before .before .before .args .t1) (l .depth) 0) _ (le-refl _))
+    omega (arith, out-small (g .before .choices .inv .0) (g .if1 .c) (c .pick3 .ensures))
 
 -- the placement that is stored
-storing : (c : tie.After-pick Inv-choices μ-choices Inv-tasks μ-tasks)
+storing : (c : tie.After-pick3 Inv-choices μ-choices Inv-tasks μ-tasks)
     → let g = c .before .before .before .before .before in
     let a = g .before .before .before .args in
     let l = g .before .choices in
     let p = c .before .before .with-choice .result in
-    let w = getD (l .loads) 0 0 + c .pick .result in
-    Walking (job (a .t1) (a .n) (a .m) (a .h) (a .limit)) (locals p (l .loads) p w w (l .steps + 1) (l .depth) (l .next + 1))
+    let w = l .out + c .pick3 .result in
+    Walking (job (a .t1) (a .n) (a .m) (a .h) (a .limit)) (locals p (l .loads) (l .out) p w w (l .steps + 1) (l .depth) (a .m + 1))
 storing c =
     let v = entering (c .before .before .before .before .before) in
     stores v (c .before .before .before .before .if8 .left) (omega (arith, c .before .if9 .left))
-    (rw (depth-byte (v .state)) at (c .before .before .with-choice .ensures)) (c .pick .ensures)
+    (rw (depth-byte (v .state)) at (c .before .before .with-choice .ensures)) (c .pick3 .ensures)
 
 choices-less-3 : tie.Need-choices-less-3 Inv-choices μ-choices Inv-tasks μ-tasks
-choices-less-3 c = one-choice-less (entering (c .before .before .before .before .before .before) .within)
+choices-less-3 c = no-choice-left (entering (c .before .before .before .before .before .before) .within)
 
 choices-again-3 : tie.Need-choices-again-3 Inv-choices μ-choices Inv-tasks μ-tasks
 choices-again-3 c =
     let t = c .before .before .before .before .before .before .before .choices .inv in
-    (storing (c .before), t .1, no-fewer (t .2), t .3, c .if10 .left)
+    (storing (c .before), t .1, no-fewer (t .2), t .3, c .if10 .left, λ h. absurd (omega arith))
 
 returns : tie.Need-returns Inv-choices μ-choices Inv-tasks μ-tasks
 returns c = rw (c .before .before .before .choices .inv .3) (walk-done (none-left (c .before)) (omega arith) (c .if7 .taken))
@@ -173,4 +180,4 @@ returns-3 c =
 
 pub walk-spec : {M : Type 1} → statement M
 walk-spec =
-    tie.close (tie.spec Inv-choices μ-choices Inv-tasks μ-tasks (λ c. search needs) add-bound tasks-holds (λ c. search needs) (λ c. search needs) (λ c. search needs) (λ c. search needs) (λ c. search needs) (λ c. search needs) (λ c. search needs) add-load-2 (λ c. search needs) (λ c κs. search needs) (λ c. search needs) (λ c. search needs) choices-again (λ c. search needs) (λ c. search needs) (λ c. search needs) (λ c. search needs) (λ c κs. search needs) (λ c. search needs) (λ c. search needs) choices-again-2 (λ c. search needs) (λ c. search needs) (λ c. search needs) (λ c. search needs) add-if6 (λ c. search needs) (λ c. search needs) cast-last (λ c. search needs) (λ c. search needs) with-less-requires (λ c κs. search needs) (λ c. search needs) tasks-again (λ c. search needs) (λ c. search needs) cast-with-choice-2 with-choice-requires (λ c. search needs) (λ c. search needs) with-more-requires (λ c. search needs) tasks-less-2 tasks-again-2 (λ c. search needs) (λ c. search needs) (λ c. search needs) (λ c κs. search needs) add-rejected (λ c. search needs) choices-less-3 choices-again-3 returns returns-2 returns-3)
+    tie.close (tie.spec Inv-choices μ-choices Inv-tasks μ-tasks (λ c. search needs) add-bound tasks-holds (λ c. search needs) (λ c. search needs) (λ c. search needs) (λ c. search needs) (λ c. search needs) (λ c. search needs) has-room-requires (λ c. search needs) (λ c. search needs) choices-again (λ c. search needs) (λ c. search needs) (λ c. search needs) (λ c κs. search needs) (λ c. search needs) (λ c. search needs) choices-again-2 (λ c. search needs) (λ c. search needs) (λ c. search needs) add-if6 (λ c. search needs) (λ c. search needs) cast-last (λ c. search needs) (λ c. search needs) with-less-requires (λ c. search needs) (λ c. search needs) (λ c κs. search needs) sub-out (λ c κs. search needs) (λ c. search needs) tasks-again (λ c. search needs) (λ c. search needs) cast-with-choice-2 with-choice-requires (λ c. search needs) (λ c. search needs) with-more-requires (λ c. search needs) (λ c. search needs) (λ c κs. search needs) add-out (λ c. search needs) tasks-less-2 tasks-again-2 (λ c. search needs) (λ c. search needs) (λ c κs. search needs) add-rejected (λ c. search needs) choices-less-3 choices-again-3 returns returns-2 returns-3)
