@@ -119,7 +119,7 @@ int main(void)
                 return 1;
             }
         }
-        const double c = median(plain, ROUNDS), rattle = median(tested, ROUNDS);
+        const double c = fastest(plain, ROUNDS), rattle = fastest(tested, ROUNDS);
         printf("%-28s %10.1f %14.1f %8.2f\n", samples[s].name, c / TICKS * 1e9,
                rattle / TICKS * 1e9, c / rattle);
         sum_plain += c;

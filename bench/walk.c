@@ -129,7 +129,7 @@ int main(void)
                 return 1;
             }
         }
-        const double c = median(plain, ROUNDS), rattle = median(tested, ROUNDS);
+        const double c = fastest(plain, ROUNDS), rattle = fastest(tested, ROUNDS);
         printf("%-29s %10u %14.0f %14.0f %8.2f\n", sample->name, steps, steps / c, steps / rattle,
                c / rattle);
         sum_plain += c;
