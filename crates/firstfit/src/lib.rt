@@ -1,8 +1,7 @@
 // First fit, on demands in planning order: each task on the lowest core where it still fits, or left out.
 ghost use mathlib.Core.Path.{_≡_};
-ghost use Prim.Native.Nat.{ℕ, _+_, _≤_, _<_};
-ghost use lib.Dec.{leb};
-ghost use lib.ListN.{getD, take};
+ghost use Prim.Native.Nat.{_≤_};
+ghost use lib.ListN.{take};
 ghost use Rattle.numbers.specs.First.{first};
 ghost use Rattle.allocation.specs.Placement.{problemOf};
 ghost use Rattle.search.specs.Search.{Ranges};

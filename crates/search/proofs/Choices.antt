@@ -19,7 +19,7 @@ use Rattle.allocation.specs.Walk.{entered}
 use Rattle.allocation.proofs.Order.{choice-core, choice-none}
 use Rattle.moves.specs.Entry.{someZero}
 use Rattle.search.specs.Search.{Ranges}
-use Rattle.search.proofs.State.{Job, problem, Fixed, Locals, locals, held, Walking, Looked, load-next}
+use Rattle.search.proofs.State.{Job, problem, Fixed, Locals, held, Walking, Improving, Looked, load-next}
 
 -- what the search leaves unchanged, in the order of the code
 abbrev pub job : List ℕ → ℕ → ℕ → ℕ → ℕ → Job
@@ -53,7 +53,7 @@ module _ {J : Job} {L : Locals} (s : Walking J L) where
   abbrev node : List ℕ
   node = take (L .depth) (L .path)
 
-  -- the walk's test on the code's numbers, while the excess is below the bound
+  -- the walk's test on the code's numbers
   test-is : {over : ℕ} → over ≡ excess (problem J) → over < L .bound → (x : ℕ)
       → let out = L .out + cond (eqb x 0) demand 0 in
       entered (problem J) node x (L .bound)
@@ -81,14 +81,14 @@ module _ {J : Job} {L : Locals} (s : Walking J L) where
     tried-is f = rw (add-one (L .next), s .chosen .loads-are (suc (L .next)), f, some-empty-is (L .next))
 
     -- core next + 1 is looked at
-    module _ {over : ℕ} (ex : over ≡ excess (problem J)) (low : over < L .bound) (out-below : L .next ≤ J .cores → L .out < L .bound)
+    module _ {over : ℕ} (ex : over ≡ excess (problem J)) (i : Improving over (J .cores) (L .out) (L .bound) (L .next))
         {r : Bool} (fits : r ≡ leb (getD (L .loads) (L .next) 0 + demand) (J .capacity)) where
       core-looked : {t : Bool} → (r && tried (problem J) node (L .next + 1)) ≡ t → Looked J L (L .next + 1) t
       core-looked e = record {
         state = s;
         within = omega arith;
         choice-is = add-one (L .next) ∙ sym (choice-core (J .cores) (L .next) k);
-        tested = sym (test-is ex low (L .next + 1) ∙ rw (ne-eqb (L .next + 1) 0 (λ z. omega arith), add-zero, held-core, ← fits, lt-ltb (L .out) (L .bound) (out-below (omega arith)), and-true) e);
+        tested = sym (test-is ex (i .excess-below) (L .next + 1) ∙ rw (ne-eqb (L .next + 1) 0 (λ z. omega arith), add-zero, held-core, ← fits, lt-ltb (L .out) (L .bound) (i .out-below (omega arith)), and-true) e);
       }
 
       -- it has no room for the task
@@ -114,11 +114,11 @@ module _ {J : Job} {L : Locals} (s : Walking J L) where
   none-tried = rw and-false
 
   -- leaving the task out is looked at
-  pub none-looked : J .cores ≤ L .next → L .next ≤ J .cores → {over : ℕ} → over ≡ excess (problem J) → over < L .bound
-      → {r : Bool} → leb (L .bound) (L .out + demand) ≡ r → Looked J L 0 (not r)
-  none-looked g k ex low e = record {
+  pub none-looked : J .cores ≤ L .next → L .next ≤ J .cores → {over : ℕ} → over ≡ excess (problem J)
+      → Improving over (J .cores) (L .out) (L .bound) (L .next) → {r : Bool} → leb (L .bound) (L .out + demand) ≡ r → Looked J L 0 (not r)
+  none-looked g k ex i e = record {
     state = s;
     within = k;
     choice-is = let q : L .next ≡ J .cores = omega arith in rw q (sym (choice-none (J .cores)));
-    tested = rw (test-is ex low 0, none-tried, and-true, ← e) (not-leb (L .bound) (L .out + demand));
+    tested = rw (test-is ex (i .excess-below) 0, none-tried, and-true, ← e) (not-leb (L .bound) (L .out + demand));
   }

@@ -5,7 +5,7 @@ use native.Mathlib.Numerals.{add-one}
 use native.Mathlib.Decide.{ℕ-discrete, decLt}
 use native.Mathlib.Omega.{arith}
 use mathlib.Core.Path.{_≡_, refl, sym, ap, _∙_}
-use mathlib.Core.Bool.{Bool, true, false, cond, not}
+use mathlib.Core.Bool.{Bool, true, false, cond}
 use mathlib.Core.List.{List, [], _∷_, _++_}
 use mathlib.Core.Logic.{_≢_, dite}
 use lib.Dec.{eqb, leb}
@@ -96,6 +96,17 @@ pub record Walking (J : Job) (L : Locals) : Type 0 where
   pub progress : Progress (problem J) (L .path) (L .depth) (L .next) (L .bound) (take (J .tasks) (L .best)) (L .steps)
   pub next-within : L .next ≤ J .cores + 1
   pub within : L .steps ≤ J .limit
+
+-- What is known at every choice, since it is asked where it can change.
+pub record Improving (over m out bound next : ℕ) : Type 0 where
+  -- The excess is below the bound.
+  pub excess-below : over < bound
+  -- What is rejected is below the bound, unless no choice is left.
+  pub out-below : next ≤ m → out < bound
+
+-- it is, at the next choice of the same task
+pub next-one : {over m out bound next : ℕ} → Improving over m out bound next → Improving over m out bound (next + 1)
+next-one i = record { excess-below = i .excess-below; out-below = λ h. i .out-below (omega arith) }
 
 -- an entry of a list with entry x changed
 changed : (l : List ℕ) (x v c : ℕ) {n : ℕ} → x < length l → (x ≡ c → v ≡ n) → (x ≢ c → getD l c 0 ≡ n)

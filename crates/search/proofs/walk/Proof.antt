@@ -1,20 +1,19 @@
 -- What is left of the walk follows from the loops' variables; each move makes one step of it, or none.
-use Prim.Native.Nat.{suc, _+_, _*_, _-_, _≤_, _<_}
+use Prim.Native.Nat.{suc, _+_, _*_, _-_, _≤_}
 use mathlib.Core.Path.{_≡_, refl}
 use mathlib.Core.Bool.{true, false}
 use mathlib.Core.Logic.{⊎-elim}
 use native.Mathlib.Omega.{arith}
 use borrow.Author.Needs.{needs}
-use Rattle.search.proofs.State.{locals, Walking, walk-start, walk-done, walk-over, past, walk-back, may-improve, one-less, last-small, last-core, last-out}
+use Rattle.search.proofs.State.{locals, Walking, walk-start, walk-done, walk-over, past, Improving, next-one, walk-back, may-improve, one-less, last-small, last-core, last-out}
 use Rattle.search.proofs.State.{depth-small, depth-byte, load-small, out-small, Looked, choice-small, skips, improves, stops, more, stores, descends, no-choice-left, one-step-less, no-fewer}
 use Rattle.search.proofs.Choices.{job, total-small, ranges-fixed, core-unfit, core-passed, core-lowest, core-used, none-looked}
 use Rattle.search.proofs.walk.Statement.{statement}
 use Rattle.search.proofs.walk.Tie as tie
 
--- The excess is below the bound, and so is what is rejected wherever a choice is left.
 abbrev Inv-choices : tie.InvT-choices
 Inv-choices n m h total excess limit demands deepest path₀ loads₀ out₀ best₀ rejected₀ bound₀ steps₀ spent₀ depth₀ next₀ path loads out best rejected bound steps spent depth next =
-    Walking (job demands n m h limit) (locals path loads out best rejected bound steps depth next) × (depth ≡ depth₀) × (steps₀ ≤ steps) × (spent ≡ false) × (excess < bound) × (next ≤ m → out < bound)
+    Walking (job demands n m h limit) (locals path loads out best rejected bound steps depth next) × (depth ≡ depth₀) × (steps₀ ≤ steps) × (spent ≡ false) × Improving excess m out bound next
 
 abbrev μ-choices : tie.MeasureT-choices
 μ-choices n m h total excess limit demands deepest path₀ loads₀ out₀ best₀ rejected₀ bound₀ steps₀ spent₀ depth₀ next₀ path loads out best rejected bound steps spent depth next =
@@ -22,7 +21,7 @@ abbrev μ-choices : tie.MeasureT-choices
 
 abbrev Inv-tasks : tie.InvT-tasks
 Inv-tasks n m h total excess limit demands deepest path₀ loads₀ out₀ best₀ rejected₀ bound₀ steps₀ spent₀ depth₀ next₀ path loads out best rejected bound steps spent depth next =
-    Walking (job demands n m h limit) (locals path loads out best rejected bound steps depth next) × (spent ≡ false) × (excess < bound) × (next ≤ m → out < bound)
+    Walking (job demands n m h limit) (locals path loads out best rejected bound steps depth next) × (spent ≡ false) × Improving excess m out bound next
 
 abbrev μ-tasks : tie.MeasureT-tasks
 μ-tasks n m h total excess limit demands deepest path₀ loads₀ out₀ best₀ rejected₀ bound₀ steps₀ spent₀ depth₀ next₀ path loads out best rejected bound steps spent depth next =
@@ -37,14 +36,13 @@ entering : (c : tie.Joined1 Inv-choices μ-choices Inv-tasks μ-tasks)
 entering c =
     let l = c .before .choices in
     let e = c .before .before .before .pre .excess-is in
-    let low = l .inv .4 in
     ⊎-elim
     (λ w. let core = l .inv .0 in
     rw (w .4) (⊎-elim
-    (λ v. core-lowest core (w .0 .taken) e low (l .inv .5) (w .1 .ensures) (w .2 .left) (v .2 .ensures) (v .3 .left))
-    (λ v. core-used core (w .0 .taken) e low (l .inv .5) (w .1 .ensures) (w .2 .left) (v .left))
+    (λ v. core-lowest core (w .0 .taken) e (l .inv .4) (w .1 .ensures) (w .2 .left) (v .2 .ensures) (v .3 .left))
+    (λ v. core-used core (w .0 .taken) e (l .inv .4) (w .1 .ensures) (w .2 .left) (v .left))
     (w .3 .came)))
-    (λ w. rw (w .3) (none-looked (l .inv .0) (w .0 .left) (w .1 .left) e low (w .2 .left)))
+    (λ w. rw (w .3) (none-looked (l .inv .0) (w .0 .left) (w .1 .left) e (l .inv .4) (w .2 .left)))
     (c .if1 .came)
 
 -- no choice is left, where the ways to that have met
@@ -68,7 +66,7 @@ tasks-holds : tie.Need-tasks-holds Inv-choices μ-choices Inv-tasks μ-tasks
 tasks-holds c =
     let a = c .args in
     let g = c .pre .ranges in
-    (walk-start (job (a .t1) (a .n) (a .m) (a .h) (a .limit)) (ranges-fixed g (search needs)) (g .some) _ (c .pre .total-is), refl, omega (arith, c .pre .total-is, c .pre .excess-is), λ h. omega arith)
+    (walk-start (job (a .t1) (a .n) (a .m) (a .h) (a .limit)) (ranges-fixed g (search needs)) (g .some) _ (c .pre .total-is), refl, record { excess-below = omega (arith, c .pre .total-is, c .pre .excess-is); out-below = λ h. omega arith })
 
 has-room-requires : tie.Need-has-room-requires Inv-choices μ-choices Inv-tasks μ-tasks
 has-room-requires c κs = c .before .before .before .pre .ranges .each (c .before .choices .depth)
@@ -77,14 +75,14 @@ choices-again : tie.Need-choices-again Inv-choices μ-choices Inv-tasks μ-tasks
 choices-again c =
     let l = c .before .before .before .choices in
     let e = c .before .before .before .before .before .pre .excess-is in
-    (skips (core-unfit (l .inv .0) (c .before .before .if1 .taken) e (l .inv .4) (l .inv .5) (c .before .has-room .ensures) (c .if2 .taken)), l .inv .1, l .inv .2, l .inv .3, l .inv .4, λ h. l .inv .5 (omega arith))
+    (skips (core-unfit (l .inv .0) (c .before .before .if1 .taken) e (l .inv .4) (c .before .has-room .ensures) (c .if2 .taken)), l .inv .1, l .inv .2, l .inv .3, next-one (l .inv .4))
 
 choices-again-2 : tie.Need-choices-again-2 Inv-choices μ-choices Inv-tasks μ-tasks
 choices-again-2 c =
     let g = c .before .before .before .before .before in
     let l = g .before .before .choices in
     let e = g .before .before .before .before .pre .excess-is in
-    (skips (core-passed (l .inv .0) (g .before .if1 .taken) e (l .inv .4) (l .inv .5) (g .has-room .ensures) (c .before .before .before .before .if2 .left) (c .before .before .before .if3 .taken) (c .before .some-empty .ensures) (c .if4 .taken)), l .inv .1, l .inv .2, l .inv .3, l .inv .4, λ h. l .inv .5 (omega arith))
+    (skips (core-passed (l .inv .0) (g .before .if1 .taken) e (l .inv .4) (g .has-room .ensures) (c .before .before .before .before .if2 .left) (c .before .before .before .if3 .taken) (c .before .some-empty .ensures) (c .if4 .taken)), l .inv .1, l .inv .2, l .inv .3, next-one (l .inv .4))
 
 add-if6 : tie.Need-add-if6 Inv-choices μ-choices Inv-tasks μ-tasks
 add-if6 c = omega (arith, load-small (c .before .before .choices .inv .0) 0)
@@ -108,7 +106,7 @@ tasks-again c =
     let g = c .before .before .before .before in
     let f = one-less (c .before .before .before .if7 .left) in
     let t = g .before .before .choices .inv in
-    (walk-back (none-left g) f refl (omega arith) (c .before .before .with-less .ensures) (c .before .pick .ensures) (c .resume .ensures), t .3, t .4, may-improve _ _ _ _ _ (c .resume .ensures))
+    (walk-back (none-left g) f refl (omega arith) (c .before .before .with-less .ensures) (c .before .pick .ensures) (c .resume .ensures), t .3, record { excess-below = t .4 .excess-below; out-below = may-improve _ _ _ _ _ (c .resume .ensures) })
 
 cast-with-choice-2 : tie.Need-cast-with-choice-2 Inv-choices μ-choices Inv-tasks μ-tasks
 cast-with-choice-2 c = omega (arith, choice-small (entering (c .before .before)))
@@ -139,7 +137,7 @@ tasks-again-2 c =
     let g = c .before .before .before .before .before .before in
     let v = entering g in
     let t = g .before .choices .inv in
-    (descends v (c .before .before .before .before .before .if8 .left) (omega (arith, c .before .before .if9 .taken)) (rw (depth-byte (v .state)) at (c .before .before .before .with-choice .ensures)) (c .before .with-more .ensures) (c .pick2 .ensures), t .3, t .4, λ h. improves v (c .pick2 .ensures))
+    (descends v (c .before .before .before .before .before .if8 .left) (omega (arith, c .before .before .if9 .taken)) (rw (depth-byte (v .state)) at (c .before .before .before .with-choice .ensures)) (c .before .with-more .ensures) (c .pick2 .ensures), t .3, record { excess-below = t .4 .excess-below; out-below = λ h. improves v (c .pick2 .ensures) })
 
 add-rejected : tie.Need-add-rejected Inv-choices μ-choices Inv-tasks μ-tasks
 add-rejected c =
@@ -165,7 +163,7 @@ choices-less-3 c = no-choice-left (entering (c .before .before .before .before .
 choices-again-3 : tie.Need-choices-again-3 Inv-choices μ-choices Inv-tasks μ-tasks
 choices-again-3 c =
     let t = c .before .before .before .before .before .before .before .choices .inv in
-    (storing (c .before), t .1, no-fewer (t .2), t .3, c .if10 .left, λ h. absurd (omega arith))
+    (storing (c .before), t .1, no-fewer (t .2), t .3, record { excess-below = c .if10 .left; out-below = λ h. absurd (omega arith) })
 
 returns : tie.Need-returns Inv-choices μ-choices Inv-tasks μ-tasks
 returns c = rw (c .before .before .before .choices .inv .3) (walk-done (none-left (c .before)) (omega arith) (c .if7 .taken))
