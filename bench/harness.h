@@ -9,7 +9,7 @@
 #include <time.h>
 
 /* How many bytes after a line of the cache the measured function begins. Where code stands changes its
-   speed by 5 to 13 %: `bench/run` tries four places. */
+   speed by 4 to 13 %: `bench/run` tries four places. */
 #ifndef OFF
 #define OFF 0
 #endif
