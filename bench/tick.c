@@ -1,13 +1,19 @@
 /* Nanoseconds per tick of the core runner, beside the same tick in plain C in the same run.
-   The ratio is Rattle's speed by C's: 1.0 is as fast as C. `bench/run` builds and runs it.      */
+   The ratio is Rattle's speed by C's: 1.0 is as fast as C. `bench/run` builds and runs it;
+   `bench/against` also puts an earlier version's runner beside the two.                         */
 
 #include "harness.h"
+#include <alloca.h>
 
 /* The runner under test: makes a fresh core 1 with all tasks of the table on it, gives it full
-   requests (the largest number, each) for so many ticks, and returns the sum of the tasks run. */
+   requests (the largest number, each) for so many ticks, and returns the sum of the tasks run and
+   of the late tasks, so that no part of an answer can be left out.                              */
 uint64_t bench_tick(const uint8_t *table, size_t table_len, uint32_t ticks);
+#ifdef BEFORE
+uint64_t before_tick(const uint8_t *table, size_t table_len, uint32_t ticks);
+#endif
 
-#define TICKS 2000000u
+enum { TICKS = 200000, PLACES = 4, APART = 16 };
 
 /* The tick in plain C. */
 
@@ -70,8 +76,10 @@ static uint32_t run_ticks(const uint32_t *periods, const uint32_t *budgets, uint
         core[k] = (struct slot){periods[k], budgets[k], 0, 0};
         request[k] = UINT32_MAX;
     }
-    for (uint32_t k = 0; k < ticks; k++)
-        sum += tick(core, request).run;
+    for (uint32_t k = 0; k < ticks; k++) {
+        const struct answer answer = tick(core, request);
+        sum += (uint32_t)answer.run + answer.late;
+    }
     return sum;
 }
 
@@ -92,41 +100,87 @@ static const struct sample {
      {1, 1, 1, 1, 1, 1, 1, 1, 1, 1, 1, 1, 1, 1, 1, 1}},
 };
 
+/* Those measured: plain C, Rattle, and Rattle as it was where that is asked for. */
+enum { PLAIN, TESTED, EARLIER, SIDES };
+
+static uint64_t run_side(int side, const struct sample *sample, const uint8_t *table, size_t length)
+{
+    switch (side) {
+    case PLAIN:
+        return run_ticks(sample->periods, sample->budgets, TICKS);
+    case TESTED:
+        return bench_tick(table, length, TICKS);
+    default:
+#ifdef BEFORE
+        return before_tick(table, length, TICKS);
+#else
+        return 0;
+#endif
+    }
+}
+
+/* One side with the stack moved down by so many bytes: its sum, and its time in seconds. */
+static __attribute__((noinline)) uint64_t
+at(size_t down, int side, const struct sample *sample, const uint8_t *table, size_t length, double *time)
+{
+    volatile uint8_t *below = alloca(down + APART);
+    below[0] = 0;
+    const double start = now();
+    const uint64_t sum = run_side(side, sample, table, length);
+    *time = now() - start;
+    return sum;
+}
+
 int main(void)
 {
     const size_t count = sizeof samples / sizeof samples[0];
-    double sum_plain = 0, sum_tested = 0;
+#ifdef BEFORE
+    const int sides = SIDES;
+#else
+    const int sides = EARLIER;
+#endif
+    double together[SIDES] = {0};
 
-    printf("%-28s %10s %14s %8s\n", "table", "C ns/tick", "Rattle ns/tick", "ratio");
-    for (size_t s = 0; s < count; s++) {
-        uint8_t table[2 + 8 * TASKS] = {TASKS, 1};
-        for (int k = 0; k < TASKS; k++) {
-            put_word(table + 2 + 4 * k, samples[s].periods[k]);
-            put_word(table + 2 + 4 * (TASKS + k), samples[s].budgets[k]);
-        }
+    printf("%-28s %10s %14s %8s%s\n", "table", "C ns/tick", "Rattle ns/tick", "ratio",
+           sides == SIDES ? "  before, ns    ratio" : "");
+    for (size_t s = 0; s <= count; s++) {
+        double time[SIDES] = {0};
+        if (s == count) {
+            for (int side = 0; side < sides; side++)
+                time[side] = together[side] / (double)count;
+        } else {
+            uint8_t table[2 + 8 * TASKS] = {TASKS, 1};
+            for (int k = 0; k < TASKS; k++) {
+                put_word(table + 2 + 4 * k, samples[s].periods[k]);
+                put_word(table + 2 + 4 * (TASKS + k), samples[s].budgets[k]);
+            }
 
-        /* The two take turns. */
-        double plain[ROUNDS], tested[ROUNDS];
-        for (int round = 0; round < ROUNDS; round++) {
-            const double start = now();
-            const uint32_t ours = run_ticks(samples[s].periods, samples[s].budgets, TICKS);
-            const double middle = now();
-            const uint64_t theirs = bench_tick(table, sizeof table, TICKS);
-            tested[round] = now() - middle;
-            plain[round] = middle - start;
-            if (theirs != ours) {
-                printf("sums of tasks run differ: %u and %llu\n", ours, (unsigned long long)theirs);
-                return 1;
+            /* Sides and places of the stack take turns. A side's figure is the mean over the places. */
+            static double rounds[SIDES][PLACES][ROUNDS];
+            for (int round = 0; round < ROUNDS; round++)
+                for (size_t place = 0; place < PLACES; place++) {
+                    uint64_t sums[SIDES];
+                    for (int side = 0; side < sides; side++) {
+                        sums[side] = at(place * APART, side, &samples[s], table, sizeof table,
+                                        &rounds[side][place][round]);
+                        if (sums[side] != sums[PLAIN]) {
+                            printf("sums of tasks named differ: %llu and %llu\n",
+                                   (unsigned long long)sums[PLAIN], (unsigned long long)sums[side]);
+                            return 1;
+                        }
+                    }
+                }
+            for (int side = 0; side < sides; side++) {
+                for (size_t place = 0; place < PLACES; place++)
+                    time[side] += fastest(rounds[side][place], ROUNDS) / PLACES;
+                together[side] += time[side];
             }
         }
-        const double c = fastest(plain, ROUNDS), rattle = fastest(tested, ROUNDS);
-        printf("%-28s %10.1f %14.1f %8.2f\n", samples[s].name, c / TICKS * 1e9,
-               rattle / TICKS * 1e9, c / rattle);
-        sum_plain += c;
-        sum_tested += rattle;
+        printf("%-28s %10.1f %14.1f %8.2f", s == count ? "together" : samples[s].name,
+               time[PLAIN] / TICKS * 1e9, time[TESTED] / TICKS * 1e9, time[PLAIN] / time[TESTED]);
+        if (sides == SIDES)
+            printf("  %10.1f %8.2f", time[EARLIER] / TICKS * 1e9, time[PLAIN] / time[EARLIER]);
+        printf("\n");
     }
-    const double ticks = (double)count * TICKS;
-    printf("%-28s %10.1f %14.1f %8.2f\n", "together", sum_plain / ticks * 1e9,
-           sum_tested / ticks * 1e9, sum_plain / sum_tested);
     return 0;
 }

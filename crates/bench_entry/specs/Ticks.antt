@@ -1,4 +1,4 @@
--- What the benchmark of the tick returns: the sum of the tasks run, so that no tick can be left out.
+-- What the benchmark of the tick returns: the sum of the tasks run and of the late tasks, so that no part of a tick can be left out.
 use Prim.Native.Nat.{ℕ, zero, suc, _+_, _%_}
 use mathlib.Core.List.{List}
 use mathlib.Core.Bool.{cond}
@@ -13,18 +13,18 @@ use Rattle.start.specs.Starts.{startOf}
 abbrev pub full : List ℕ
 full = replicate 16 4294967295
 
--- a sum with one task run more, in 32 bits
+-- a sum with one task more, in 32 bits
 abbrev pub plus : ℕ → ℕ → ℕ
-plus sum run = (sum + run % 65536) % 4294967296
+plus sum task = (sum + task % 65536) % 4294967296
 
 -- the sum after some ticks of a record, where it was `sum` before them
-unfoldable pub sumOfRuns : ℕ → List Slot → ℕ → ℕ
-sumOfRuns sum slots zero = sum
-sumOfRuns sum slots (suc ticks) =
+unfoldable pub sumOfTasks : ℕ → List Slot → ℕ → ℕ
+sumOfTasks sum slots zero = sum
+sumOfTasks sum slots (suc ticks) =
     let a : TickAnswer = tick 0 slots full in
-    sumOfRuns (plus sum (a .run)) (a .slots) ticks
+    sumOfTasks (plus (plus sum (a .run)) (a .late)) (a .slots) ticks
 
 -- the sum for a table with all its tasks on core 1; 0 for more than sixteen tasks
 unfoldable pub benchSum : List ℕ → ℕ → ℕ
 benchSum table ticks =
-    cond (ltb 16 (taskCount table)) 0 (sumOfRuns 0 (startOf table (take (taskCount table) (replicate 16 1)) 1 .core .slots) ticks)
+    cond (ltb 16 (taskCount table)) 0 (sumOfTasks 0 (startOf table (take (taskCount table) (replicate 16 1)) 1 .core .slots) ticks)

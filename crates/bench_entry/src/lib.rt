@@ -2,7 +2,7 @@
 ghost use mathlib.Core.Path.{_≡_};
 ghost use Prim.Native.Nat.{_<_};
 ghost use Rattle.planner.specs.Plan.{planOf};
-ghost use Rattle.bench_entry.specs.Ticks.{plus as plusOf, sumOfRuns, benchSum};
+ghost use Rattle.bench_entry.specs.Ticks.{plus as plusOf, sumOfTasks, benchSum};
 use runner::Core;
 
 // Plans a table and returns the number of steps.
@@ -13,17 +13,17 @@ pub extern "C" fn bench_search(table: &[u8], limit: u32) -> u32
     planner::plan(table, limit).steps
 }
 
-// A sum with one task run more, in 32 bits.
-fn plus(sum: u64, run: usize) -> u64
+// A sum with one task more, in 32 bits.
+fn plus(sum: u64, task: usize) -> u64
     requires { ⌜ sum < 4294967296 ⌝ }
-    ensures { λ r. ⌜ r ≡ plusOf sum run ⌝ }
+    ensures { λ r. ⌜ r ≡ plusOf sum task ⌝ }
 {
-    (sum + (run % 65536) as u64) % 4294967296
+    (sum + (task % 65536) as u64) % 4294967296
 }
 
-// The sum of the tasks run by some ticks of a record, each with full requests.
-fn sum_of_runs(core: Core, ticks: u32) -> u64
-    ensures { λ r. ⌜ r ≡ sumOfRuns 0 (core .slots) ticks ⌝ }
+// The sum of the tasks run and of the late tasks over some ticks of a record, each with full requests.
+fn sum_of_tasks(core: Core, ticks: u32) -> u64
+    ensures { λ r. ⌜ r ≡ sumOfTasks 0 (core .slots) ticks ⌝ }
 {
     let requests = [4294967295u32; 16];
     let mut now = core;
@@ -32,6 +32,7 @@ fn sum_of_runs(core: Core, ticks: u32) -> u64
     while 0 < left {
         let ticked = now.tick(requests);
         sum = plus(sum, ticked.run);
+        sum = plus(sum, ticked.late);
         let next = ticked.core;
         now = next;
         left -= 1;
@@ -39,7 +40,7 @@ fn sum_of_runs(core: Core, ticks: u32) -> u64
     sum
 }
 
-// Runs a table's tasks, all on core 1, with full requests, and returns the sum of the tasks run.
+// Runs a table's tasks, all on core 1, with full requests, and returns the sum of the tasks run and of the late tasks.
 #[no_mangle]
 pub extern "C" fn bench_tick(table: &[u8], ticks: u32) -> u64
     ensures { λ r. ⌜ r ≡ benchSum (now (table .entry)) ticks ⌝ }
@@ -51,5 +52,5 @@ pub extern "C" fn bench_tick(table: &[u8], ticks: u32) -> u64
     }
     let started = start::fresh(table, &placement[..n], 1);
     let core = started.core;
-    sum_of_runs(core, ticks)
+    sum_of_tasks(core, ticks)
 }

@@ -15,7 +15,7 @@ slice-aggregate-fresh c = sym (length-take-le _ _ (omega arith))
 
 returns-2 : tie.Need-returns-2
 returns-2 c =
-    bench-few _ _ _ (c .before .before .before .before .before .size .ensures .0 ∙ c .before .before .before .before .before .before .byte .ensures) (c .before .before .before .before .if1 .left) (c .before .before .fresh .ensures .0) (c .sum-of-runs .ensures)
+    bench-few _ _ _ (c .before .before .before .before .before .size .ensures .0 ∙ c .before .before .before .before .before .before .byte .ensures) (c .before .before .before .before .if1 .left) (c .before .before .fresh .ensures .0) (c .sum-of-tasks .ensures)
 
 pub bench-tick-spec : {M : Type 1} → statement M
 bench-tick-spec =

@@ -1,8 +1,8 @@
 -- The sum so far and the record now give what is still to come.
-use Rattle.bench_entry.proofs.TickSums.{Summing, sum-start, sum-next, sum-done}
+use Rattle.bench_entry.proofs.TickSums.{plus-small, Summing, sum-start, sum-next, sum-done}
 use borrow.Author.Needs.{needs}
-use Rattle.bench_entry.proofs.sum_of_runs.Statement.{statement}
-use Rattle.bench_entry.proofs.sum_of_runs.Tie as tie
+use Rattle.bench_entry.proofs.sum_of_tasks.Statement.{statement}
+use Rattle.bench_entry.proofs.sum_of_tasks.Tie as tie
 
 abbrev Inv-loop : tie.InvT-loop
 Inv-loop ticks requests now₀ sum₀ left₀ now sum left = Summing (now₀ .slots) ticks requests (now .slots) sum left
@@ -10,7 +10,8 @@ Inv-loop ticks requests now₀ sum₀ left₀ now sum left = Summing (now₀ .sl
 abbrev μ-loop : tie.MeasureT-loop
 μ-loop ticks requests now₀ sum₀ left₀ now sum left = left
 
-pub sum-of-runs-spec : {M : Type 1} → statement M
-sum-of-runs-spec =
+pub sum-of-tasks-spec : {M : Type 1} → statement M
+sum-of-tasks-spec =
     tie.close (tie.spec Inv-loop μ-loop (λ c. search (needs, sum-start)) (λ c κs. search needs) (λ c κs. search needs)
-    (λ c. search needs) (λ c. search needs) (λ c. search (needs, sum-next)) (λ c. search (needs, sum-done)))
+    (λ c κs. search (needs, plus-small)) (λ c. search needs) (λ c. search needs) (λ c. search (needs, sum-next))
+    (λ c. search (needs, sum-done)))
