@@ -1,4 +1,4 @@
-pub mod SlotLoops
+pub mod SweepLaws
 pub mod TickLaws
 pub mod PlainLaws
 pub mod RecordLaws

@@ -25,7 +25,7 @@ use Rattle.edf.proofs.ChoiceLaws.{claim-slot, slot-claim}
 use Rattle.edf.proofs.NamingLaws.{chosen-names}
 use Rattle.runner.specs.declared.Core.{Core}
 use Rattle.runner.specs.Plain.{PeriodBegins, StillOwes, PlainRelease, PlainChoice, PlainNext, PlainTick}
-use Rattle.runner.proofs.SlotLoops.{advance-slot}
+use Rattle.runner.proofs.TickLaws.{advance-slot}
 
 -- The late task.
 due-says : (s : Slot) → due s ≡ true → PeriodBegins s

@@ -8,7 +8,7 @@ use lib.Dec.{eqb, ltb, leb}
 use native.Mathlib.Omega.{arith}
 use borrow.Author.Tests.{eqb-true, eqb-false, ltb-false, leb-false, not-false}
 use Rattle.numbers.proofs.BoolLaws.{or-false-left, or-false-right}
-use Rattle.numbers.proofs.FirstLaws.{Holds}
+use Rattle.numbers.proofs.FirstLaws.{Holds, first-zero}
 use Rattle.refusal.specs.Tests.{refuseAt}
 use Rattle.refusal.specs.Conditions.{Decides}
 use Rattle.refusal.specs.declared.Cause.the-variants.{Slot as WrongSlot}
@@ -71,3 +71,8 @@ module _ (charge : ℕ) (slots : List Slot) where
 
     pub record-accepted : wrong ≡ 0 → Decides (ValidRecord charge slots) (recordConditions charge slots) Accepted
     record-accepted z = rw (sym (refuseAt-zero wrong WrongSlot z) ∙ ap (λ k. refuseAt k WrongSlot) e) record-decides
+
+    -- and what an accepted record is
+    pub record-valid : wrong ≡ 0 → ValidRecord charge slots
+    unfolding firstSlot slotTest
+    record-valid z i h = can-be charge (slotAt slots i) (first-zero (slotTest (cannotBe charge) slots) 16 (sym e ∙ z) i h)

@@ -1,24 +1,114 @@
 -- A tick by its parts.
-use Prim.Native.Nat.{ℕ, _+_, min}
-use mathlib.Core.Path.{_≡_}
+use Prim.Native.Nat.{ℕ, suc, _+_, _-_, _≤_, _<_, min}
+use mathlib.Core.Path.{_≡_, refl, sym, ap, _∙_}
+use mathlib.Core.Logic.{by-cases}
+use mathlib.Core.Bool.{Bool, true, false, cond, _&&_, _||_}
 use mathlib.Core.List.{List}
+use native.Mathlib.Omega.{arith}
+use native.Mathlib.Decide.{ℕ-discrete}
 use native.Mathlib.Nat.{add-zero}
-use lib.Dec.{eqb}
-use borrow.Author.Tests.{eq-eqb, ne-eqb}
+use lib.Dec.{eqb, ltb}
+use lib.ListN.{length, getD, set, length-set}
+use lib.Seq.{getD-set-same, getD-set-other, ext-getD}
+use borrow.Author.Tests.{eq-eqb, ne-eqb, lt-ltb, le-ltb}
 use Rattle.numbers.proofs.BoolLaws.{cond-both}
 use Rattle.refusal.specs.declared.Outcome.the-variants.{Accepted, Refused}
 use Rattle.refusal.specs.declared.Cause.the-variants.{Slot as WrongSlot}
 use Rattle.edf.specs.declared.Slot.{Slot}
-use Rattle.edf.specs.Slots.{firstWrong}
-use Rattle.edf.specs.Tick.{owedFor, firstLate, releaseAll, chosen, advanceAll, stepped, refusedTick, tick}
+use Rattle.edf.specs.declared.Claim.{Claim}
+use Rattle.edf.specs.Slots.{emptySlot, occupied, each, firstWrong}
+use Rattle.edf.specs.Tick.{owedFor, firstLate, released, releaseAll, chosen, ran, run, advanced, advance, advanceAll, stepped, refusedTick, tick}
+use Rattle.edf.proofs.SlotLaws.{each-each, length-each}
+use Rattle.edf.proofs.SlotSteps.{ran-at}
 use Rattle.runner.specs.declared.Core.{Core}
 use Rattle.runner.specs.Answers.{tickAnswer}
+use Rattle.runner.specs.Sweep.{lateSoFar, choiceSoFar}
+use Rattle.runner.proofs.SweepLaws.{getD-any}
 
 -- Where there is no charge a task is owed the smaller of request and budget.
-pub owed-uncharged : (budget asked : ℕ) → owedFor 0 budget asked ≡ min asked budget
+owed-uncharged : (budget asked : ℕ) → owedFor 0 budget asked ≡ min asked budget
 unfolding owedFor
 owed-uncharged budget asked =
     cond-both (λ n. min asked budget + n ≡ min asked budget) (eqb asked 0) 0 0 (add-zero _) (add-zero _)
+
+-- A slot as its program makes it: each field that changes, by its own call.
+pub advanced-by : (s : Slot) {until : ℕ} → until ≡ s .until - 1
+    → record { period = s .period; budget = s .budget; until = until; remaining = s .remaining } ≡ advanced s
+advanced-by s e = λ i. record { period = s .period; budget = s .budget; until = e i; remaining = s .remaining }
+
+pub released-by : (s : Slot) (asked : ℕ) {owed : ℕ} → owed ≡ min asked (s .budget)
+    → record { period = s .period; budget = s .budget; until = s .period; remaining = owed } ≡ released s (owedFor 0 (s .budget) asked)
+released-by s asked e = ap (released s) (e ∙ sym (owed-uncharged (s .budget) asked))
+
+pub ran-by : (s : Slot) {remaining : ℕ} → remaining ≡ s .remaining - 1
+    → record { period = s .period; budget = s .budget; until = s .until; remaining = remaining } ≡ ran s
+ran-by s e = λ i. record { period = s .period; budget = s .budget; until = s .until; remaining = e i }
+
+-- The late task and the choice so far, by their tests.
+module _ (late k : ℕ) (s : Slot) where
+  pub late-new : (eqb late 0 && ltb 0 (s .remaining)) ≡ true → k ≡ lateSoFar late k s
+  late-new e = rw e
+
+  pub late-kept : (eqb late 0 && ltb 0 (s .remaining)) ≡ false → late ≡ lateSoFar late k s
+  late-kept e = rw e
+
+module _ (best : Claim) (k : ℕ) (s : Slot) where
+  pub choice-new : 0 < s .remaining → (eqb (best .task) 0 || ltb (s .until) (best .deadline)) ≡ true
+      → record { task = k; deadline = s .until } ≡ choiceSoFar best k s
+  choice-new h e = rw (lt-ltb 0 (s .remaining) h, e)
+
+  pub choice-kept : 0 < s .remaining → (eqb (best .task) 0 || ltb (s .until) (best .deadline)) ≡ false → best ≡ choiceSoFar best k s
+  choice-kept h e = rw (lt-ltb 0 (s .remaining) h, e)
+
+  pub choice-idle : s .remaining ≤ 0 → best ≡ choiceSoFar best k s
+  choice-idle h = rw (le-ltb 0 (s .remaining) h)
+
+-- a slot with its two fields that fall, each by its test
+abbrev pub falling : Slot → Bool → Bool → Slot
+falling s a b = record {
+  period = s .period;
+  budget = s .budget;
+  until = cond b (s .until - 1) (s .until);
+  remaining = cond a (s .remaining - 1) (s .remaining);
+}
+
+pub advance-slot : (task k : ℕ) (s : Slot) → falling s (eqb k task) (occupied s) ≡ advance k (run task k s)
+advance-slot task k s = go (eqb k task) (occupied s) refl
+  where
+    go : (a b : Bool) → occupied s ≡ b → falling s a b ≡ advance k (cond a (ran s) s)
+    go true true e = rw e
+    go true false e = rw e
+    go false true e = rw e
+    go false false e = rw e
+
+-- Counting down and running do not touch each other.
+run-advance : (task k : ℕ) (s : Slot) → run task k (advance k s) ≡ advance k (run task k s)
+run-advance task k s = go (eqb k task) (occupied s) refl
+  where
+    go : (a b : Bool) → occupied s ≡ b → cond a (ran (advance k s)) (advance k s) ≡ advance k (cond a (ran s) s)
+    go true true e = rw e
+    go true false e = rw e
+    go false b e = refl
+
+pub run-last : (task : ℕ) (slots : List Slot) → each (run task) (each advance slots) ≡ advanceAll task slots
+unfolding advanceAll
+run-last task slots =
+    each-each advance (run task) 1 slots ∙ (λ i. each (λ k s. run-advance task k s i) slots) ∙ sym (each-each (run task) advance 1 slots)
+
+-- Step 2 of a whole record: idle, no slot changes; otherwise the one that runs.
+pub run-none : (task : ℕ) (slots : List Slot) → task ≡ 0 → slots ≡ each (run task) slots
+run-none task slots e =
+    ext-getD emptySlot slots (each (run task) slots) (sym (length-each (run task) 1 slots))
+    (λ j h. rw (ran-at task slots j, ne-eqb (suc j) task (λ q. omega arith)))
+
+pub run-one : (task : ℕ) (slots : List Slot) (d : Slot) {y : Slot} → length slots ≡ 16 → task ≤ 16 → (task ≡ 0 → ⊥) → y ≡ ran (getD slots (task - 1) d)
+    → set slots (task - 1) y ≡ each (run task) slots
+run-one task slots d {y} size h n e =
+    ext-getD emptySlot (set slots (task - 1) y) (each (run task) slots) (length-set slots _ y ∙ sym (length-each (run task) 1 slots))
+    (λ j l. by-cases (ℕ-discrete j (task - 1))
+    (λ q. rw (ran-at task slots j, eq-eqb (suc j) task (omega (arith, n)), q)
+    (getD-set-same slots (task - 1) y emptySlot (omega (arith, n)) ∙ e ∙ ap ran (getD-any slots (task - 1) d emptySlot (omega (arith, n)))))
+    (λ q. rw (ran-at task slots j, ne-eqb (suc j) task (λ z. q (omega arith))) (getD-set-other slots (task - 1) j y emptySlot q)))
 
 module _ (charge : ℕ) (core : Core) (requests : List ℕ) (wrong : ℕ) (e : wrong ≡ firstWrong charge (core .slots)) where
   pub tick-refused : (wrong ≡ 0 → ⊥) → tickAnswer (record { core = core; run = 0; late = 0; outcome = Refused (WrongSlot wrong) }) ≡ tick charge (core .slots) requests

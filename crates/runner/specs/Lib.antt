@@ -1,4 +1,4 @@
 pub mod Answers
-pub mod Parts
+pub mod Sweep
 pub mod Records
 pub mod Plain

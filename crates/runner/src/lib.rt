@@ -1,16 +1,15 @@
 // The runner of one core: its record and one tick.
 ghost use mathlib.Core.Path.{_≡_};
 ghost use mathlib.Core.Logic.{_≢_};
-ghost use mathlib.Core.Bool.{cond};
-ghost use Prim.Native.Nat.{_-_, min};
-ghost use Rattle.edf.specs.Slots.{cannotBe, firstWrong};
-ghost use Rattle.edf.specs.Tick.{due, late as lateOf, firstLate, releaseSlot, releaseAll, chosen, run as runSlot, advance, advanceAll, tick as tickOf};
+ghost use Prim.Native.Nat.{_-_, _≤_, min};
+ghost use Rattle.edf.specs.Slots.{each, cannotBe, firstWrong};
+ghost use Rattle.edf.specs.Tick.{owedFor, released as releasedOf, ran as ranOf, run as runSlot, advanced as advancedOf, tick as tickOf};
 ghost use Rattle.refusal.specs.Conditions.{Decides};
 ghost use Rattle.refusal.specs.declared.Outcome.the-variants.{Accepted};
 ghost use Rattle.runner.specs.Answers.{tickAnswer};
-ghost use Rattle.runner.specs.Parts.{choiceSoFar, lateSoFar};
 ghost use Rattle.runner.specs.Plain.{PlainTick, PlainRefusal};
 ghost use Rattle.runner.specs.Records.{ValidRecord, recordConditions};
+ghost use Rattle.runner.specs.Sweep.{lateSoFar, choiceSoFar, AfterSlots};
 use edf::Claim;
 use edf::Slot;
 use refusal::Cause;
@@ -29,6 +28,13 @@ pub struct Ticked {
     pub outcome: Outcome,
 }
 
+// What the pass over the slots leaves: the slots, the late task and the choice.
+struct Swept {
+    slots: [Slot; 16],
+    late: usize,
+    choice: Claim,
+}
+
 // Whether a slot cannot be.
 fn cannot_be(s: Slot) -> bool
     ensures { λ r. ⌜ r ≡ cannotBe 0 s ⌝ }
@@ -42,40 +48,33 @@ fn cannot_be(s: Slot) -> bool
                 | (s.budget < s.remaining))
 }
 
-// Whether a slot is released at this tick.
-fn is_due(s: Slot) -> bool
-    ensures { λ r. ⌜ r ≡ due s ⌝ }
-{
-    (s.period != 0) & (s.until == 0)
-}
-
-// Whether a slot is released with ticks still owed.
-fn is_late(s: Slot) -> bool
-    ensures { λ r. ⌜ r ≡ lateOf s ⌝ }
-{
-    (s.period != 0) & (s.until == 0) & (0 < s.remaining)
-}
-
 fn smaller(a: u32, b: u32) -> u32
     ensures { λ r. ⌜ r ≡ min a b ⌝ }
 {
     if a < b { a } else { b }
 }
 
-// The slot after its release, or as it was where it is not due.
+// A slot that is released: its next release is a period away, and it owes the smaller of request and budget.
 fn released(asked: u32, s: Slot) -> Slot
-    ensures { λ r. ⌜ r ≡ releaseSlot 0 asked s ⌝ }
+    ensures { λ r. ⌜ r ≡ releasedOf s (owedFor 0 (s .budget) asked) ⌝ }
 {
-    if is_due(s) {
-        let owed = smaller(asked, s.budget);
-        Slot {
-            period: s.period,
-            budget: s.budget,
-            until: s.period,
-            remaining: owed,
-        }
+    let owed = smaller(asked, s.budget);
+    Slot {
+        period: s.period,
+        budget: s.budget,
+        until: s.period,
+        remaining: owed,
+    }
+}
+
+// The late task so far, with one released slot more.
+fn late_so_far(late: usize, number: usize, s: Slot) -> usize
+    ensures { λ r. ⌜ r ≡ lateSoFar late number s ⌝ }
+{
+    if (late == 0) & (0 < s.remaining) {
+        number
     } else {
-        s
+        late
     }
 }
 
@@ -83,10 +82,14 @@ fn released(asked: u32, s: Slot) -> Slot
 fn choice_so_far(best: Claim, number: usize, s: Slot) -> Claim
     ensures { λ r. ⌜ r ≡ choiceSoFar best number s ⌝ }
 {
-    if (0 < s.remaining) & ((best.task == 0) | (s.until < best.deadline)) {
-        Claim {
-            task: number,
-            deadline: s.until,
+    if 0 < s.remaining {
+        if (best.task == 0) | (s.until < best.deadline) {
+            Claim {
+                task: number,
+                deadline: s.until,
+            }
+        } else {
+            best
         }
     } else {
         best
@@ -99,23 +102,28 @@ fn less_one(x: u32) -> u32
     if x == 0 { 0 } else { x - 1 }
 }
 
-// One less where it falls, and never below 0.
-fn fallen(x: u32, falls: bool) -> u32
-    ensures { λ r. ⌜ r ≡ cond falls (x - 1) x ⌝ }
+// Step 3: an occupied slot's release is one tick nearer.
+fn advanced(s: Slot) -> Slot
+    ensures { λ r. ⌜ r ≡ advancedOf s ⌝ }
 {
-    if falls { less_one(x) } else { x }
-}
-
-// The slot after steps 2 and 3, where task `run` runs.
-fn advanced(run: usize, number: usize, s: Slot) -> Slot
-    ensures { λ r. ⌜ r ≡ advance number (runSlot run number s) ⌝ }
-{
-    let until = fallen(s.until, s.period != 0);
-    let remaining = fallen(s.remaining, number == run);
+    let until = less_one(s.until);
     Slot {
         period: s.period,
         budget: s.budget,
         until: until,
+        remaining: s.remaining,
+    }
+}
+
+// Step 2: the slot that runs owes one tick less.
+fn ran(s: Slot) -> Slot
+    ensures { λ r. ⌜ r ≡ ranOf s ⌝ }
+{
+    let remaining = less_one(s.remaining);
+    Slot {
+        period: s.period,
+        budget: s.budget,
+        until: s.until,
         remaining: remaining,
     }
 }
@@ -135,73 +143,48 @@ fn first_wrong(slots: [Slot; 16]) -> usize
     0
 }
 
-// The late task so far, with one slot more.
-fn late_so_far(late: usize, number: usize, s: Slot) -> usize
-    ensures { λ r. ⌜ r ≡ lateSoFar late number s ⌝ }
-{
-    if (late == 0) & is_late(s) {
-        number
-    } else {
-        late
-    }
-}
-
-// Step 1: the lowest number of a slot that is late; 0 if there is none.
-fn first_late(slots: [Slot; 16]) -> usize
-    ensures { λ r. ⌜ r ≡ firstLate slots ⌝ }
-{
-    let mut late: usize = 0;
-    let mut i: usize = 0;
-    while i < 16 {
-        let s = slots[i];
-        late = late_so_far(late, i + 1, s);
-        i += 1;
-    }
-    late
-}
-
-// Step 1: every slot that is due is released.
-fn release_all(requests: [u32; 16], slots: [Slot; 16]) -> [Slot; 16]
-    ensures { λ r. ⌜ r ≡ releaseAll 0 requests slots ⌝ }
+// The one pass of a tick: each occupied slot is released if it is due, may become the choice, and counts down.
+fn sweep(requests: [u32; 16], slots: [Slot; 16]) -> Swept
+    requires { ⌜ ValidRecord 0 slots ⌝ }
+    ensures { λ r. ⌜ AfterSlots 0 requests slots 16 (r .slots) (r .late) (r .choice) ⌝ }
 {
     let mut next = slots;
-    let mut i: usize = 0;
-    while i < 16 {
-        let s = next[i];
-        let asked = requests[i];
-        next[i] = released(asked, s);
-        i += 1;
-    }
-    next
-}
-
-// Step 2: the task that runs; 0 for idle.
-fn choose(slots: [Slot; 16]) -> usize
-    ensures { λ r. ⌜ r ≡ chosen slots ⌝ }
-{
-    let mut best = Claim {
+    let mut late: usize = 0;
+    let mut choice = Claim {
         task: 0,
         deadline: 0,
     };
-    let mut i: usize = 0;
-    while i < 16 {
-        let s = slots[i];
-        best = choice_so_far(best, i + 1, s);
-        i += 1;
+    let mut done: usize = 0;
+    while done < 16 {
+        let s = next[done];
+        if s.period != 0 {
+            let mut ready = s;
+            if s.until == 0 {
+                late = late_so_far(late, done + 1, s);
+                let asked = requests[done];
+                ready = released(asked, s);
+            }
+            choice = choice_so_far(choice, done + 1, ready);
+            next[done] = advanced(ready);
+        }
+        done += 1;
     }
-    best.task
+    Swept {
+        slots: next,
+        late: late,
+        choice: choice,
+    }
 }
 
-// Steps 2 and 3: the task that runs owes one tick less, and every occupied slot's release is one tick nearer.
-fn advance_all(run: usize, slots: [Slot; 16]) -> [Slot; 16]
-    ensures { λ r. ⌜ r ≡ advanceAll run slots ⌝ }
+// Step 2: the task that runs owes one tick less; with 0, idle, the slots stay as they are.
+fn after_run(run: usize, slots: [Slot; 16]) -> [Slot; 16]
+    requires { ⌜ run ≤ 16 ⌝ }
+    ensures { λ r. ⌜ r ≡ each (runSlot run) slots ⌝ }
 {
     let mut next = slots;
-    let mut i: usize = 0;
-    while i < 16 {
-        let s = next[i];
-        next[i] = advanced(run, i + 1, s);
-        i += 1;
+    if run != 0 {
+        let s = next[run - 1];
+        next[run - 1] = ran(s);
     }
     next
 }
@@ -224,15 +207,15 @@ impl Core {
                 outcome: Outcome::Refused(Cause::Slot(wrong)),
             };
         }
-        let late = first_late(slots);
-        let ready = release_all(requests, slots);
-        let run = choose(ready);
-        let next = advance_all(run, ready);
+        let swept = sweep(requests, slots);
+        let run = swept.choice.task;
+        let counted = swept.slots;
+        let next = after_run(run, counted);
         let core = Core { slots: next };
         Ticked {
             core: core,
             run: run,
-            late: late,
+            late: swept.late,
             outcome: Outcome::Accepted,
         }
     }

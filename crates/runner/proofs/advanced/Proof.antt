@@ -1,8 +1,8 @@
--- Each field by its own call.
-use Rattle.runner.proofs.SlotLoops.{advance-fields}
+-- One less, by its own call.
 use borrow.Author.Needs.{needs}
+use Rattle.runner.proofs.TickLaws.{advanced-by}
 use Rattle.runner.proofs.advanced.Statement.{statement}
 use Rattle.runner.proofs.advanced.Tie as tie
 
 pub advanced-spec : {M : Type 1} → statement M
-advanced-spec = tie.close (tie.spec (λ c κs. search needs) (λ c κs. search needs) (λ c. search (needs, advance-fields)))
+advanced-spec = tie.close (tie.spec (λ c κs. search needs) (λ c. advanced-by _ (c .less-one .ensures)))

@@ -1,11 +1,8 @@
--- The release, by the test.
+-- The smaller of request and budget is owed, where there is no charge.
 use borrow.Author.Needs.{needs}
-use Rattle.runner.proofs.TickLaws.{owed-uncharged}
+use Rattle.runner.proofs.TickLaws.{released-by}
 use Rattle.runner.proofs.released.Statement.{statement}
 use Rattle.runner.proofs.released.Tie as tie
 
 pub released-spec : {M : Type 1} → statement M
-released-spec =
-    tie.close (tie.spec (λ c κs. search needs) (λ c κs. search needs)
-    (λ c. rw (← c .before .before .is-due .ensures, c .before .if1 .taken, owed-uncharged) (rw (c .smaller .ensures)))
-    (λ c. rw (← c .before .is-due .ensures, c .if1 .left)))
+released-spec = tie.close (tie.spec (λ c κs. search needs) (λ c. released-by (c .before .args .s) _ (c .smaller .ensures)))

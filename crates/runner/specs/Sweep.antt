@@ -1,0 +1,37 @@
+-- The one pass of a tick over the slots, which releases, chooses and counts down: what it keeps from slot to slot, and what holds after each.
+use Prim.Native.Nat.{ℕ, suc, _-_, _≤_, _<_}
+use mathlib.Core.Path.{_≡_}
+use mathlib.Core.Logic.{_≢_}
+use mathlib.Core.Bool.{cond, _&&_, _||_}
+use mathlib.Core.List.{List}
+use lib.Dec.{eqb, ltb}
+use lib.ListN.{length, take}
+use Rattle.edf.specs.declared.Slot.{Slot}
+use Rattle.edf.specs.declared.Claim.{Claim}
+use Rattle.edf.specs.Slots.{slotAt}
+use Rattle.edf.specs.Tick.{firstLate, releaseAll, chosen, advance}
+
+-- the late task so far with slot number k, which is released: 0 is none so far
+abbrev pub lateSoFar : ℕ → ℕ → Slot → ℕ
+lateSoFar late k s = cond (eqb late 0 && ltb 0 (s .remaining)) k late
+
+-- the choice so far with slot number k: it takes the choice's place if it owes ticks and its release is sooner; task 0 is none so far
+abbrev pub choiceSoFar : Claim → ℕ → Slot → Claim
+choiceSoFar best k s =
+    cond (ltb 0 (s .remaining) && (eqb (best .task) 0 || ltb (s .until) (best .deadline))) (record { task = k; deadline = s .until }) best
+
+-- After i slots of the pass, where the record was `slots` before it and is `now`:
+module _ (charge : ℕ) (requests : List ℕ) (slots : List Slot) (i : ℕ) where
+  -- the slots up to there, after step 1
+  abbrev pub readySoFar : List Slot
+  readySoFar = releaseAll charge requests (take i slots)
+
+  pub record AfterSlots (now : List Slot) (late : ℕ) (choice : Claim) : Type 0 where
+    -- the late task and the choice so far are those that steps 1 and 2 name among the slots up to there,
+    pub late-named : late ≡ firstLate (take i slots)
+    pub choice-named : choice .task ≡ chosen readySoFar
+    pub choice-until : choice .task ≢ 0 → choice .deadline ≡ slotAt readySoFar (choice .task - 1) .until
+    -- these have been through steps 1 and 3, and later slots are untouched.
+    pub passed : (j : ℕ) → j < i → slotAt now j ≡ advance (suc j) (slotAt readySoFar j)
+    pub untouched : (j : ℕ) → i ≤ j → slotAt now j ≡ slotAt slots j
+    pub sixteen : length now ≡ 16
