@@ -14,16 +14,15 @@ use Rattle.numbers.specs.First.{FirstAt}
 use Rattle.numbers.proofs.BoolLaws.{and-left, and-right}
 use Rattle.numbers.proofs.BoundLaws.{not-less}
 use Rattle.numbers.proofs.FirstLaws.{first-zero, first-is, isFirst-map}
-use Rattle.refusal.specs.declared.Outcome.{Outcome}
-use Rattle.refusal.specs.declared.Outcome.the-variants.{Accepted}
 use Rattle.edf.specs.declared.Slot.{Slot}
 use Rattle.edf.specs.Slots.{occupied, slotAt, slotTest, firstSlot}
-use Rattle.edf.specs.Tick.{owedFor, due, late as lateOf, firstLate, releaseSlot, release, releaseAll, chosen, run as runSlot, advance, advanceAll}
+use Rattle.edf.specs.Tick.{owedFor, due, late as lateOf, firstLate, releaseSlot, release, releaseAll, chosen, run as runSlot, advance, advanceAll, stepped}
 use Rattle.edf.proofs.DemandLaws.{due-now}
 use Rattle.edf.proofs.SlotSteps.{ready-at, ready-length, advanced-at, advanced-length}
 use Rattle.edf.proofs.ChoiceLaws.{claim-slot, slot-claim}
 use Rattle.edf.proofs.NamingLaws.{chosen-names}
-use Rattle.runner.specs.declared.Core.{Core}
+use Rattle.runner.specs.declared.Ticked.{Ticked}
+use Rattle.runner.specs.Answers.{tickAnswer}
 use Rattle.runner.specs.Plain.{PeriodBegins, StillOwes, PlainRelease, PlainChoice, PlainNext, PlainTick}
 use Rattle.runner.proofs.TickLaws.{advance-slot}
 
@@ -106,20 +105,23 @@ plain-next task k s = rw (← advance-slot task k s) (record {
   waits = λ n. rw (ne-eqb k task n) refl;
 })
 
-module _ (charge : ℕ) (core : Core) (requests : List ℕ) where
-  pub plain-accepted : (late run : ℕ) (ready next : List Slot) {o : Outcome} → length (core .slots) ≡ 16 → late ≡ firstLate (core .slots)
-      → ready ≡ releaseAll charge requests (core .slots) → run ≡ chosen ready → next ≡ advanceAll run ready
-      → o ≡ Accepted → PlainTick charge (core .slots) requests (record { core = record { slots = next }; run = run; late = late; outcome = Accepted })
-  plain-accepted late run ready next size el er ec en _ =
-      let sixteen : length ready ≡ 16 = rw er (ready-length charge requests (core .slots) ∙ size) in
-      record {
-        late = rw el (plain-late (core .slots));
-        ready = ready;
-        ready-sixteen = sixteen;
-        released = λ i h b. rw (er, released-at charge requests (core .slots) i) (plain-release charge (getD requests i 0) (slotAt (core .slots) i) b);
-        kept = λ i h n. rw (er, released-at charge requests (core .slots) i) (plain-kept charge (getD requests i 0) (slotAt (core .slots) i) n);
-        idle = rw ec (plain-idle ready sixteen);
-        runs = rw ec (plain-choice ready sixteen);
-        next = λ i h. rw (en, advanced-at run ready i) (plain-next run (suc i) (slotAt ready i));
-        next-sixteen = rw en (advanced-length run ready ∙ sixteen);
-      }
+pub plain-stepped : (charge : ℕ) (slots : List Slot) (requests : List ℕ) (r : Ticked) → length slots ≡ 16 → tickAnswer r ≡ stepped charge slots requests
+    → PlainTick charge slots requests r
+unfolding tickAnswer stepped
+plain-stepped charge slots requests r size e =
+    let ready : List Slot = releaseAll charge requests slots in
+    let sixteen : length ready ≡ 16 = ready-length charge requests slots ∙ size in
+    let run : r .run ≡ chosen ready = λ i. e i .run in
+    let next : r .core .slots ≡ advanceAll (r .run) ready = rw run (λ i. e i .slots) in
+    let late : r .late ≡ firstLate slots = λ i. e i .late in
+    record {
+      late = rw late (plain-late slots);
+      ready = ready;
+      ready-sixteen = sixteen;
+      released = λ i h b. rw (released-at charge requests slots i) (plain-release charge (getD requests i 0) (slotAt slots i) b);
+      kept = λ i h n. rw (released-at charge requests slots i) (plain-kept charge (getD requests i 0) (slotAt slots i) n);
+      idle = rw run (plain-idle ready sixteen);
+      runs = rw run (plain-choice ready sixteen);
+      next = λ i h. rw (next, advanced-at (r .run) ready i) (plain-next (r .run) (suc i) (slotAt ready i));
+      next-sixteen = rw next (advanced-length (r .run) ready ∙ sixteen);
+    }

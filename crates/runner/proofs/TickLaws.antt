@@ -21,6 +21,7 @@ use Rattle.edf.specs.Tick.{owedFor, firstLate, released, releaseAll, chosen, ra
 use Rattle.edf.proofs.SlotLaws.{each-each, length-each}
 use Rattle.edf.proofs.SlotSteps.{ran-at}
 use Rattle.runner.specs.declared.Core.{Core}
+use Rattle.runner.specs.declared.Ticked.{Ticked}
 use Rattle.runner.specs.Answers.{tickAnswer}
 use Rattle.runner.specs.Sweep.{lateSoFar, choiceSoFar}
 use Rattle.runner.proofs.SweepLaws.{getD-any}
@@ -110,13 +111,25 @@ run-one task slots d {y} size h n e =
     (getD-set-same slots (task - 1) y emptySlot (omega (arith, n)) ∙ e ∙ ap ran (getD-any slots (task - 1) d emptySlot (omega (arith, n)))))
     (λ q. rw (ran-at task slots j, ne-eqb (suc j) task (λ z. q (omega arith))) (getD-set-other slots (task - 1) j y emptySlot q)))
 
-module _ (charge : ℕ) (core : Core) (requests : List ℕ) (wrong : ℕ) (e : wrong ≡ firstWrong charge (core .slots)) where
-  pub tick-refused : (wrong ≡ 0 → ⊥) → tickAnswer (record { core = core; run = 0; late = 0; outcome = Refused (WrongSlot wrong) }) ≡ tick charge (core .slots) requests
-  unfolding tickAnswer tick refusedTick
-  tick-refused n = rw (← e, ne-eqb wrong 0 n)
+-- The three steps as their program makes them.
+pub stepped-by : (charge : ℕ) (slots : List Slot) (requests : List ℕ) (late run : ℕ) (next : List Slot) → late ≡ firstLate slots
+    → run ≡ chosen (releaseAll charge requests slots) → next ≡ advanceAll run (releaseAll charge requests slots)
+    → tickAnswer (record { core = record { slots = next }; run = run; late = late; outcome = Accepted }) ≡ stepped charge slots requests
+unfolding tickAnswer stepped
+stepped-by charge slots requests late run next el ec en = rw (en, ec, el)
 
-  pub tick-accepted : (late run : ℕ) (ready next : List Slot) → wrong ≡ 0 → late ≡ firstLate (core .slots) → ready ≡ releaseAll charge requests (core .slots)
-      → run ≡ chosen ready → next ≡ advanceAll run ready
-      → tickAnswer (record { core = record { slots = next }; run = run; late = late; outcome = Accepted }) ≡ tick charge (core .slots) requests
-  unfolding tickAnswer tick stepped
-  tick-accepted late run ready next z el er ec en = rw (← e, eq-eqb wrong 0 z, en, ec, er, el)
+-- and the refusal
+pub refused-by : (core : Core) (slot : ℕ) {r : Ticked} → r ≡ record { core = core; run = 0; late = 0; outcome = Refused (WrongSlot slot) }
+    → tickAnswer r ≡ refusedTick (core .slots) slot
+unfolding tickAnswer refusedTick
+refused-by core slot e = ap tickAnswer e
+
+-- A tick, by its test.
+module _ (charge : ℕ) (slots : List Slot) (requests : List ℕ) {wrong : ℕ} (e : wrong ≡ firstWrong charge slots) where
+  pub tick-accepted : wrong ≡ 0 → stepped charge slots requests ≡ tick charge slots requests
+  unfolding tick
+  tick-accepted z = rw (← e, eq-eqb wrong 0 z)
+
+  pub tick-refused : (wrong ≡ 0 → ⊥) → refusedTick slots wrong ≡ tick charge slots requests
+  unfolding tick
+  tick-refused n = rw (← e, ne-eqb wrong 0 n)

@@ -3,9 +3,10 @@ ghost use mathlib.Core.Path.{_≡_};
 ghost use mathlib.Core.Logic.{_≢_};
 ghost use Prim.Native.Nat.{_-_, _≤_, min};
 ghost use Rattle.edf.specs.Slots.{each, cannotBe, firstWrong};
-ghost use Rattle.edf.specs.Tick.{owedFor, released as releasedOf, ran as ranOf, run as runSlot, advanced as advancedOf, tick as tickOf};
+ghost use Rattle.edf.specs.Tick.{owedFor, released as releasedOf, ran as ranOf, run as runSlot, advanced as advancedOf, stepped as steppedOf, tick as tickOf};
 ghost use Rattle.refusal.specs.Conditions.{Decides};
-ghost use Rattle.refusal.specs.declared.Outcome.the-variants.{Accepted};
+ghost use Rattle.refusal.specs.declared.Outcome.the-variants.{Accepted, Refused};
+ghost use Rattle.refusal.specs.declared.Cause.the-variants.{Slot as WrongSlot};
 ghost use Rattle.runner.specs.Answers.{tickAnswer};
 ghost use Rattle.runner.specs.Plain.{PlainTick, PlainRefusal};
 ghost use Rattle.runner.specs.Records.{ValidRecord, recordConditions};
@@ -189,6 +190,38 @@ fn after_run(run: usize, slots: [Slot; 16]) -> [Slot; 16]
     next
 }
 
+// The three steps of a record that passed the test.
+fn stepped(core: Core, requests: [u32; 16]) -> Ticked
+    requires { ⌜ ValidRecord 0 (core .slots) ⌝ }
+    ensures answer { λ r. ⌜ tickAnswer r ≡ steppedOf 0 (core .slots) requests ⌝ }
+    ensures outcome { λ r. ⌜ r .outcome ≡ Accepted ⌝ }
+{
+    let slots = core.slots;
+    let swept = sweep(requests, slots);
+    let run = swept.choice.task;
+    let counted = swept.slots;
+    let next = after_run(run, counted);
+    let after = Core { slots: next };
+    Ticked {
+        core: after,
+        run: run,
+        late: swept.late,
+        outcome: Outcome::Accepted,
+    }
+}
+
+// Number 12 for a slot, with the record as it was.
+fn refused(core: Core, slot: usize) -> Ticked
+    ensures { λ r. ⌜ r ≡ record { core = core; run = 0; late = 0; outcome = Refused (WrongSlot slot) } ⌝ }
+{
+    Ticked {
+        core: core,
+        run: 0,
+        late: 0,
+        outcome: Outcome::Refused(Cause::Slot(slot)),
+    }
+}
+
 impl Core {
     // One tick: release, choose, run and advance; or number 12 with the record as it was.
     pub fn tick(self, requests: [u32; 16]) -> Ticked
@@ -199,24 +232,10 @@ impl Core {
     {
         let slots = self.slots;
         let wrong = first_wrong(slots);
-        if wrong != 0 {
-            return Ticked {
-                core: self,
-                run: 0,
-                late: 0,
-                outcome: Outcome::Refused(Cause::Slot(wrong)),
-            };
-        }
-        let swept = sweep(requests, slots);
-        let run = swept.choice.task;
-        let counted = swept.slots;
-        let next = after_run(run, counted);
-        let core = Core { slots: next };
-        Ticked {
-            core: core,
-            run: run,
-            late: swept.late,
-            outcome: Outcome::Accepted,
+        if wrong == 0 {
+            stepped(self, requests)
+        } else {
+            refused(self, wrong)
         }
     }
 }
