@@ -1,3 +1,4 @@
+pub mod SlotMore
 pub mod SweepLaws
 pub mod TickLaws
 pub mod PlainLaws

@@ -24,7 +24,7 @@ use Rattle.runner.specs.declared.Core.{Core}
 use Rattle.runner.specs.declared.Ticked.{Ticked}
 use Rattle.runner.specs.Answers.{tickAnswer}
 use Rattle.runner.specs.Sweep.{lateSoFar, choiceSoFar}
-use Rattle.runner.proofs.SweepLaws.{getD-any}
+use Rattle.runner.proofs.SlotMore.{getD-any}
 
 -- Where there is no charge a task is owed the smaller of request and budget.
 owed-uncharged : (budget asked : ℕ) → owedFor 0 budget asked ≡ min asked budget

@@ -2,7 +2,7 @@
 use Prim.Native.Nat.{_-_}
 use Rattle.numbers.proofs.FirstLaws.{Seeking, seek-start, looked-on, looked-found, seek-none}
 use Rattle.edf.specs.Slots.{slotTest, firstSlot, cannotBe}
-use Rattle.runner.proofs.SweepLaws.{tested}
+use Rattle.runner.proofs.SlotMore.{tested}
 use borrow.Author.Needs.{needs}
 use Rattle.runner.proofs.first_wrong.Statement.{statement}
 use Rattle.runner.proofs.first_wrong.Tie as tie
