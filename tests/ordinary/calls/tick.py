@@ -32,7 +32,8 @@ def one_slot(k, slot):
 
 def edges():
     """Every way in which a slot cannot be, at the first, a middle and the last slot, beside the
-    nearest slot that can; several at once; late tasks, one and several, late and run the same."""
+    nearest slot that can; several at once; late tasks, one and several, late and run the same;
+    at each place a slot that is alone, one that is kept as the choice, one that takes its place."""
     full = [LARGEST_WORD] * 16
     wrong = [Slot(0, 1, 0, 0), Slot(0, 0, 1, 0), Slot(0, 0, 0, 1), Slot(10001, 1, 0, 0),
              Slot(LARGEST_WORD, 1, 0, 0), Slot(10, 0, 0, 0), Slot(10, 11, 0, 0), Slot(10, 5, 10, 0),
@@ -54,6 +55,13 @@ def edges():
     # Equal deadlines go to the lower number, and an earlier one before it.
     cases.append(([Slot(9, 3, 5, 1)] * 16, full))
     cases.append(([Slot(9, 3, 5, 1)] * 9 + [Slot(9, 3, 4, 1)] * 7, full))
+    # No slot is passed over, released or not; slots that are released put no sooner one aside; one
+    # that is late and released is the sooner of all.
+    due, waiting = Slot(9, 3, 0, 0), Slot(9, 3, 5, 1)
+    for k in range(16):
+        cases += [([rest] * k + [slot] + [rest] * (15 - k), full)
+                  for rest, slot in [(EMPTY, due), (EMPTY, waiting), (due, Slot(9, 3, 4, 2)),
+                                     (waiting, Slot(4, 2, 0, 2))]]
     return cases
 
 
