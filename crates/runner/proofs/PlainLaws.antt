@@ -1,7 +1,7 @@
 -- The tick, as it is defined, is what the plain words say.
 use Prim.Native.Nat.{ℕ, suc, _-_, _<_}
 use mathlib.Core.Path.{_≡_, refl, sym, _∙_}
-use mathlib.Core.Bool.{true, false, true≢false, not-eq-not}
+use mathlib.Core.Bool.{Bool, true, false, cond, true≢false, not-eq-not}
 use mathlib.Core.Logic.{_⊎_, inl, inr, ⊎-elim, _↔_, by-cases}
 use mathlib.Core.List.{List}
 use native.Mathlib.Omega.{arith}
@@ -16,7 +16,7 @@ use Rattle.numbers.proofs.BoundLaws.{not-less}
 use Rattle.numbers.proofs.FirstLaws.{first-zero, first-is, isFirst-map}
 use Rattle.edf.specs.declared.Slot.{Slot}
 use Rattle.edf.specs.Slots.{occupied, slotAt, slotTest, firstSlot}
-use Rattle.edf.specs.Tick.{owedFor, due, late as lateOf, firstLate, releaseSlot, release, releaseAll, chosen, run as runSlot, advance, advanceAll, stepped}
+use Rattle.edf.specs.Tick.{owedFor, due, late as lateOf, firstLate, releaseSlot, release, releaseAll, chosen, ran, run as runSlot, advance, advanceAll, stepped}
 use Rattle.edf.proofs.DemandLaws.{due-now}
 use Rattle.edf.proofs.SlotSteps.{ready-at, ready-length, advanced-at, advanced-length}
 use Rattle.edf.proofs.ChoiceLaws.{claim-slot, slot-claim}
@@ -24,7 +24,6 @@ use Rattle.edf.proofs.NamingLaws.{chosen-names}
 use Rattle.runner.specs.declared.Ticked.{Ticked}
 use Rattle.runner.specs.Answers.{tickAnswer}
 use Rattle.runner.specs.Plain.{PeriodBegins, StillOwes, PlainRelease, PlainChoice, PlainNext, PlainTick}
-use Rattle.runner.proofs.TickLaws.{advance-slot}
 
 -- The late task.
 due-says : (s : Slot) → due s ≡ true → PeriodBegins s
@@ -94,7 +93,24 @@ module _ (ready : List Slot) (sixteen : length ready ≡ 16) where
       }))
       (chosen-names ready)
 
--- The record handed back.
+-- The record handed back: a slot with its two fields that fall, each by its test
+abbrev falling : Slot → Bool → Bool → Slot
+falling s a b = record {
+  period = s .period;
+  budget = s .budget;
+  until = cond b (s .until - 1) (s .until);
+  remaining = cond a (s .remaining - 1) (s .remaining);
+}
+
+advance-slot : (task k : ℕ) (s : Slot) → falling s (eqb k task) (occupied s) ≡ advance k (runSlot task k s)
+advance-slot task k s = go (eqb k task) (occupied s) refl
+  where
+    go : (a b : Bool) → occupied s ≡ b → falling s a b ≡ advance k (cond a (ran s) s)
+    go true true e = rw e
+    go true false e = rw e
+    go false true e = rw e
+    go false false e = rw e
+
 plain-next : (task k : ℕ) (s : Slot) → PlainNext (k ≡ task) s (advance k (runSlot task k s))
 plain-next task k s = rw (← advance-slot task k s) (record {
   period = refl;

@@ -64,24 +64,6 @@ module _ (best : Claim) (k : ℕ) (s : Slot) where
   pub choice-idle : s .remaining ≤ 0 → best ≡ choiceSoFar best k s
   choice-idle h = rw (le-ltb 0 (s .remaining) h)
 
--- a slot with its two fields that fall, each by its test
-abbrev pub falling : Slot → Bool → Bool → Slot
-falling s a b = record {
-  period = s .period;
-  budget = s .budget;
-  until = cond b (s .until - 1) (s .until);
-  remaining = cond a (s .remaining - 1) (s .remaining);
-}
-
-pub advance-slot : (task k : ℕ) (s : Slot) → falling s (eqb k task) (occupied s) ≡ advance k (run task k s)
-advance-slot task k s = go (eqb k task) (occupied s) refl
-  where
-    go : (a b : Bool) → occupied s ≡ b → falling s a b ≡ advance k (cond a (ran s) s)
-    go true true e = rw e
-    go true false e = rw e
-    go false true e = rw e
-    go false false e = rw e
-
 -- Counting down and running do not touch each other.
 run-advance : (task k : ℕ) (s : Slot) → run task k (advance k s) ≡ advance k (run task k s)
 run-advance task k s = go (eqb k task) (occupied s) refl
