@@ -13,8 +13,8 @@ uint64_t bench_tick(const uint8_t *table, size_t table_len, uint32_t ticks);
 uint64_t before_tick(const uint8_t *table, size_t table_len, uint32_t ticks);
 #endif
 
-/* A stack may stand at 256 places of a page, and a record that lies across two pages is slower to move:
-   each side is measured at all of them, and its figure is the mean. */
+/* A stack may stand at 256 places of a page, and at some of them a tick takes longer: each side is
+   measured at all of them, and its figure is the mean. */
 enum { TICKS = 10000, PLACES = 256, APART = 16, TRIES = 9 };
 
 /* The tick in plain C. */

@@ -20,7 +20,7 @@ use Rattle.edf.specs.Tick.{claimsFrom, chosen}
 use Rattle.edf.proofs.DemandLaws.{split}
 use Rattle.edf.proofs.EarliestLaws.{soonest-in}
 use Rattle.edf.proofs.ChoiceLaws.{ClaimOf, claim-slot, claims-from}
-use Rattle.runner.specs.Sweep.{choiceSoFar}
+use Rattle.runner.specs.Sweep.{choiceSoFar, ChoiceOf}
 
 -- An element of a list, whatever stands for one past the end.
 pub getD-any : {A : Type 0} (l : List A) (i : ℕ) (d e : A) → i < length l → getD l i d ≡ getD l i e
@@ -99,33 +99,34 @@ abbrev bestOf : ℕ → List Claim → Claim
 bestOf none [] = record { task = 0; deadline = none }
 bestOf none (c ∷ cs) = soonest c cs
 
--- a choice by its task, and by its slot's ticks until release
-abbrev pub Chosen : List Slot → Claim → Type 0
-Chosen ready choice = (choice .task ≡ chosen ready) × (choice .task ≢ 0 → choice .deadline ≡ slotAt ready (choice .task - 1) .until)
-
-chosen-claim : (ready : List Slot) (choice : Claim) → Chosen ready choice → choice ≡ bestOf (choice .deadline) (claimsFrom 1 ready)
+-- a choice, and the best of the claims
+chosen-claim : (ready : List Slot) (choice : Claim) → ChoiceOf ready choice → choice ≡ bestOf (choice .deadline) (claimsFrom 1 ready)
 unfolding chosen
-chosen-claim ready choice (e, until) = go (claimsFrom 1 ready) (claim-slot 1 ready) e
+chosen-claim ready choice is = go (claimsFrom 1 ready) (claim-slot 1 ready) (is .task-named)
   where
     go : (cs : List Claim) → ((c : Claim) → In c cs → ClaimOf 1 ready c) → choice .task ≡ earliest cs → choice ≡ bestOf (choice .deadline) cs
     go [] slot e = λ i. record { task = e i; deadline = choice .deadline }
     go (c ∷ cs) slot e =
         let a : ClaimOf 1 ready (soonest c cs) = slot (soonest c cs) (soonest-in c cs) in
         let at : choice .task - 1 ≡ a .index = omega (arith, e, a .number) in
-        let same : choice .deadline ≡ soonest c cs .deadline = rw at at (until (λ z. omega (arith, e, a .number))) ∙ sym (a .deadline) in
+        let same : choice .deadline ≡ soonest c cs .deadline = rw at at (is .until (λ z. omega (arith, e, a .number))) ∙ sym (a .deadline) in
         λ i. record { task = e i; deadline = same i }
 
-claim-chosen : (ready : List Slot) (none : ℕ) → Chosen ready (bestOf none (claimsFrom 1 ready))
+claim-chosen : (ready : List Slot) (none : ℕ) → ChoiceOf ready (bestOf none (claimsFrom 1 ready))
 unfolding chosen
-claim-chosen ready none = go (claimsFrom 1 ready) (claim-slot 1 ready)
+claim-chosen ready none = record { task-named = named (claimsFrom 1 ready); until = until (claimsFrom 1 ready) (claim-slot 1 ready) }
   where
-    go : (cs : List Claim) → ((c : Claim) → In c cs → ClaimOf 1 ready c)
-        → (bestOf none cs .task ≡ earliest cs) × (bestOf none cs .task ≢ 0 → bestOf none cs .deadline ≡ slotAt ready (bestOf none cs .task - 1) .until)
-    go [] slot = (refl, λ n. absurd (n refl))
-    go (c ∷ cs) slot =
+    named : (cs : List Claim) → bestOf none cs .task ≡ earliest cs
+    named [] = refl
+    named (c ∷ cs) = refl
+
+    until : (cs : List Claim) → ((c : Claim) → In c cs → ClaimOf 1 ready c)
+        → bestOf none cs .task ≢ 0 → bestOf none cs .deadline ≡ slotAt ready (bestOf none cs .task - 1) .until
+    until [] slot n = absurd (n refl)
+    until (c ∷ cs) slot n =
         let a : ClaimOf 1 ready (soonest c cs) = slot (soonest c cs) (soonest-in c cs) in
         let at : soonest c cs .task - 1 ≡ a .index = omega (arith, a .number) in
-        (refl, λ n. rw at (a .deadline))
+        rw at (a .deadline)
 
 -- The best of some claims, and one claim more that comes after them.
 soonest-more : (c : Claim) (cs : List Claim) (d : Claim) → soonest c (cs ++ (d ∷ [])) ≡ cond (ltb (d .deadline) (soonest c cs .deadline)) d (soonest c cs)
@@ -156,8 +157,8 @@ best-more none k s cs h = go (ltb 0 (s .remaining)) cs h
     go true (c ∷ cs) h = soonest-more c cs new ∙ rw (ne-eqb (soonest c cs .task) 0 (λ q. omega (arith, h (soonest c cs) (soonest-in c cs)))) refl
 
 -- The choice with one slot more.
-pub chosen-more : (ready : List Slot) (s : Slot) (choice : Claim) {k : ℕ} → length ready ≡ k → Chosen ready choice
-    → Chosen (ready ++ (s ∷ [])) (choiceSoFar choice (suc k) s)
+pub chosen-more : (ready : List Slot) (s : Slot) (choice : Claim) {k : ℕ} → length ready ≡ k → ChoiceOf ready choice
+    → ChoiceOf (ready ++ (s ∷ [])) (choiceSoFar choice (suc k) s)
 chosen-more ready s choice {k} size is =
     let none : ℕ = choice .deadline in
     let next : 1 + length ready ≡ suc k = omega arith in

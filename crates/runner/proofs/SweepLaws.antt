@@ -1,6 +1,6 @@
 -- The pass over the slots of a record: what holds after one slot more, and after all of them.
 use Prim.Native.Nat.{ℕ, suc, _+_, _-_, _≤_, _<_}
-use mathlib.Core.Path.{_≡_, refl, sym, ap, _∙_}
+use mathlib.Core.Path.{_≡_, refl, sym, ap, subst, _∙_}
 use mathlib.Core.Logic.{_≢_, inl, inr, ⊎-elim}
 use mathlib.Core.Bool.{true, false, cond, _&&_, and-false}
 use mathlib.Core.List.{List, [], _∷_, _++_}
@@ -21,8 +21,8 @@ use Rattle.edf.proofs.SlotSteps.{ready-length}
 use Rattle.edf.proofs.ChoiceLaws.{ClaimOf, claim-slot}
 use Rattle.edf.proofs.NamingLaws.{chosen-names}
 use Rattle.runner.specs.Records.{ValidRecord}
-use Rattle.runner.specs.Sweep.{lateSoFar, choiceSoFar, readySoFar, AfterSlots}
-use Rattle.runner.proofs.SlotMore.{getD-any, more-before, more-here, first-more, each-more, Chosen, chosen-more}
+use Rattle.runner.specs.Sweep.{lateSoFar, choiceSoFar, ChoiceOf, readySoFar, AfterSlots}
+use Rattle.runner.proofs.SlotMore.{getD-any, more-before, more-here, first-more, each-more, chosen-more}
 
 -- One slot more of the pass.
 module _ {charge : ℕ} {requests : List ℕ} {slots now : List Slot} {i late : ℕ} {choice : Claim} (size : length slots ≡ 16)
@@ -59,14 +59,13 @@ module _ {charge : ℕ} {requests : List ℕ} {slots now : List Slot} {i late : 
       → late₁ ≡ cond (eqb late 0 && isLate before) (suc i) late → choice₁ ≡ choiceSoFar choice (suc i) after
       → AfterSlots charge requests slots (i + 1) next late₁ choice₁
   pass-slot {next} {late₁} {choice₁} en el ec =
-      let is : Chosen (ready (i + 1)) choice₁ =
-      rw (ready-more, ec) (chosen-more (ready i) after choice so-many-ready (a .choice-named, a .choice-until)) in
+      let is : ChoiceOf (ready (i + 1)) choice₁ =
+      rw (ready-more, ec) (chosen-more (ready i) after choice so-many-ready (a .choice-named)) in
       record {
         late-named =
             rw (a .late-named) at el
             ∙ sym (ap firstLate slots-more ∙ rw so-many at (first-more (take i slots) before isLate refl (omega (arith, so-many))));
-        choice-named = is .0;
-        choice-until = is .1;
+        choice-named = is;
         passed = λ j l. elim (split i j) [
           | inl g ↦
               let same : j ≡ i = omega arith in
@@ -129,8 +128,7 @@ pub pass-start : (charge : ℕ) (requests : List ℕ) (slots : List Slot) → le
 unfolding chosen releaseAll firstSlot slotTest
 pass-start charge requests slots size = record {
   late-named = sym (first-clear (slotTest isLate []) 16 (λ j h. refl));
-  choice-named = refl;
-  choice-until = λ n. absurd (n refl);
+  choice-named = record { task-named = refl; until = λ n. absurd (n refl) };
   passed = λ j h. absurd (omega arith);
   untouched = λ j h. refl;
   sixteen = size;
@@ -143,8 +141,7 @@ module _ {charge : ℕ} {requests : List ℕ} {slots now : List Slot} {i late : 
       let all : take 16 slots ≡ take i slots = take-all 16 slots (omega arith) ∙ sym (take-all i slots (omega arith)) in
       record {
         late-named = rw all (a .late-named);
-        choice-named = rw all (a .choice-named);
-        choice-until = rw all (a .choice-until);
+        choice-named = subst (λ l. ChoiceOf (releaseAll charge requests l) choice) (sym all) (a .choice-named);
         passed = λ j l. rw all (a .passed j (omega arith));
         untouched = λ j l. List·getD-eq-default now emptySlot (omega (arith, a .sixteen)) ∙ sym (List·getD-eq-default slots emptySlot (omega arith));
         sixteen = a .sixteen;
@@ -160,7 +157,7 @@ module _ {charge : ℕ} {requests : List ℕ} {slots now : List Slot} {late : �
   swept-late = rw all at (a .late-named)
 
   pub swept-run : choice .task ≡ chosen (releaseAll charge requests slots)
-  swept-run = rw all at (a .choice-named)
+  swept-run = rw all at (a .choice-named .task-named)
 
   pub swept-slots : now ≡ each advance (releaseAll charge requests slots)
   swept-slots =

@@ -20,6 +20,11 @@ abbrev pub choiceSoFar : Claim → ℕ → Slot → Claim
 choiceSoFar best k s =
     cond (ltb 0 (s .remaining) && (eqb (best .task) 0 || ltb (s .until) (best .deadline))) (record { task = k; deadline = s .until }) best
 
+-- The choice among some slots is the task that step 2 names, with its slot's ticks until release.
+pub record ChoiceOf (ready : List Slot) (choice : Claim) : Type 0 where
+  pub task-named : choice .task ≡ chosen ready
+  pub until : choice .task ≢ 0 → choice .deadline ≡ slotAt ready (choice .task - 1) .until
+
 -- After i slots of the pass, where the record was `slots` before it and is `now`:
 module _ (charge : ℕ) (requests : List ℕ) (slots : List Slot) (i : ℕ) where
   -- the slots up to there, after step 1
@@ -29,8 +34,7 @@ module _ (charge : ℕ) (requests : List ℕ) (slots : List Slot) (i : ℕ) wher
   pub record AfterSlots (now : List Slot) (late : ℕ) (choice : Claim) : Type 0 where
     -- the late task and the choice so far are those that steps 1 and 2 name among the slots up to there,
     pub late-named : late ≡ firstLate (take i slots)
-    pub choice-named : choice .task ≡ chosen readySoFar
-    pub choice-until : choice .task ≢ 0 → choice .deadline ≡ slotAt readySoFar (choice .task - 1) .until
+    pub choice-named : ChoiceOf readySoFar choice
     -- these have been through steps 1 and 3, and later slots are untouched.
     pub passed : (j : ℕ) → j < i → slotAt now j ≡ advance (suc j) (slotAt readySoFar j)
     pub untouched : (j : ℕ) → i ≤ j → slotAt now j ≡ slotAt slots j

@@ -56,7 +56,7 @@ def edges():
     cases.append(([Slot(9, 3, 5, 1)] * 16, full))
     cases.append(([Slot(9, 3, 5, 1)] * 9 + [Slot(9, 3, 4, 1)] * 7, full))
     # No slot is passed over, released or not; slots that are released put no sooner one aside; one
-    # that is late and released is the sooner of all.
+    # that is late and released is the soonest of all.
     due, waiting = Slot(9, 3, 0, 0), Slot(9, 3, 5, 1)
     for k in range(16):
         cases += [([rest] * k + [slot] + [rest] * (15 - k), full)
