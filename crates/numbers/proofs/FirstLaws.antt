@@ -1,11 +1,14 @@
 -- Laws of the first index at which a test holds, and the steps of a loop that looks for it.
 use Prim.Native.Nat.{ℕ, zero, suc, _+_, _-_, _≤_, _<_}
 use mathlib.Core.Path.{_≡_, sym, _∙_, ap}
-use mathlib.Core.Bool.{Bool, true, false, cond, true≢false}
-use mathlib.Core.Logic.{_≢_, ⊎-elim}
+use mathlib.Core.Bool.{Bool, true, false, cond, not, _&&_, true≢false}
+use mathlib.Core.Logic.{_≢_, ⊎-elim, by-cases}
+use lib.Dec.{eqb}
+use native.Mathlib.Decide.{decLt}
+use borrow.Author.Tests.{not-true, not-false, eq-eqb, ne-eqb}
 use native.Mathlib.Omega.{arith}
 use Rattle.numbers.specs.First.{firstFrom, first, IsFirst}
-use Rattle.numbers.proofs.BoolLaws.{true-or-false}
+use Rattle.numbers.proofs.BoolLaws.{true-or-false, and-left, and-right}
 use Rattle.numbers.proofs.BoundLaws.{not-unequal}
 
 -- what is left of the search at i
@@ -99,3 +102,35 @@ module _ (p : ℕ → Bool) (n : ℕ) where
 -- a test and the statement that it decides
 pub isFirst-map : {P Q : ℕ → Type 0} {n k : ℕ} → ((j : ℕ) → P j → Q j) → ((j : ℕ) → Q j → P j) → IsFirst P n k → IsFirst Q n k
 isFirst-map f g i = record { below = i .below; here = f _ (i .here); none = λ j h q. i .none j h (g j q) }
+
+-- A loop over i from 0 to n that asks whether the test holds nowhere: it holds nowhere before i, or it does somewhere.
+pub record Clearing (p : ℕ → Bool) (n i : ℕ) (good : Bool) : Type 0 where
+  pub top : i ≤ n
+  clear : good ≡ true → (k : ℕ) → k < i → p k ≡ false
+  found : good ≡ false → (k : ℕ) × (k < n) × (p k ≡ true)
+
+pub clear-start : (p : ℕ → Bool) (n : ℕ) → Clearing p n 0 true
+clear-start p n = record { top = omega arith; clear = λ e k h. absurd (omega arith); found = λ e. absurd (true≢false e) }
+
+module _ {p : ℕ → Bool} {n i : ℕ} {good : Bool} (s : Clearing p n i good) where
+  pub clear-next : {r next : Bool} → i < n → r ≡ p i → next ≡ (good && not r) → Clearing p n (i + 1) next
+  clear-next {r} {next} h e q = record {
+    top = omega arith;
+    clear = λ t k b.
+        let both : (good && not r) ≡ true = sym q ∙ t in
+        by-cases (decLt k i)
+        (λ l. s .clear (and-left good (not r) both) k l)
+        (λ l. let d : k ≡ i = omega arith in rw d (sym e ∙ not-true r (and-right good (not r) both)));
+    found = λ f.
+        ⊎-elim
+        (λ t. (i, h, sym e ∙ not-false r (rw t at (sym q ∙ f))))
+        (λ g. s .found g)
+        (true-or-false good);
+  }
+
+  pub clear-done : n ≤ i → good ≡ eqb (first p n) 0
+  clear-done h =
+      ⊎-elim
+      (λ t. t ∙ sym (eq-eqb (first p n) 0 (first-clear p n (λ k b. s .clear t k (omega arith)))))
+      (λ f. let x = s .found f in f ∙ sym (ne-eqb (first p n) 0 (λ z. true≢false (sym (x .2) ∙ first-zero p n z (x .0) (x .1)))))
+      (true-or-false good)

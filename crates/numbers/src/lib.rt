@@ -1,6 +1,6 @@
-// A test of ranges, rows with one entry changed, the greatest common divisor and the least common multiple.
+// A test of ranges, rows with one entry changed, whole sums and products, the greatest common divisor and the least common multiple.
 ghost use mathlib.Core.Path.{_≡_};
-ghost use Prim.Native.Nat.{_*_, min};
+ghost use Prim.Native.Nat.{_+_, _*_, min};
 ghost use lib.ListN.{set};
 ghost use Rattle.numbers.specs.Bounds.{outside as outsideOf};
 ghost use Rattle.numbers.specs.Multiples.{gcd as gcdOf, lcm as lcmOf};
@@ -51,6 +51,13 @@ pub fn gcd(a: u32, b: u32) -> u32
         y = t;
     }
     x
+}
+
+// The whole sum.
+pub fn sum(a: u32, b: u32) -> u64
+    ensures { λ r. ⌜ r ≡ a + b ⌝ }
+{
+    (a as u64) + (b as u64)
 }
 
 // The whole product.
