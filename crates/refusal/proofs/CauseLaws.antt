@@ -5,12 +5,12 @@ use native.Mathlib.Omega.{arith}
 use Rattle.refusal.specs.Causes.{numberOf}
 use Rattle.refusal.specs.CauseTable.{causeTable, Agrees}
 use Rattle.refusal.specs.declared.Cause.{Cause}
-use Rattle.refusal.specs.declared.Cause.the-variants.{TooShort, TaskCount, CoreCount, Length, Period, Budget, Hyperperiod, Buffer, Placement, CoreNumber, Overload, Slot}
+use Rattle.refusal.specs.declared.Cause.the-variants.{TooShort, TaskCount, CoreCount, Length, Period, Budget, Hyperperiod, Buffer, Placement, CoreNumber, Overload, Slot, Charge, Cost}
 
 pub table-agrees : (p : ℕ) → Agrees (causeTable p)
-table-agrees p = (refl, refl, (refl, refl, (refl, refl, (refl, refl, (refl, refl, (refl, refl, (refl, refl, (refl, refl, (refl, refl, (refl, refl, (refl, refl, (refl, refl, tt))))))))))))
+table-agrees p = (refl, refl, (refl, refl, (refl, refl, (refl, refl, (refl, refl, (refl, refl, (refl, refl, (refl, refl, (refl, refl, (refl, refl, (refl, refl, (refl, refl, (refl, refl, (refl, refl, tt))))))))))))))
 
-pub number-range : (c : Cause) → (1 ≤ numberOf c) × (numberOf c ≤ 12)
+pub number-range : (c : Cause) → (1 ≤ numberOf c) × (numberOf c ≤ 14)
 number-range TooShort = (omega arith, omega arith)
 number-range TaskCount = (omega arith, omega arith)
 number-range CoreCount = (omega arith, omega arith)
@@ -23,3 +23,5 @@ number-range (Placement task) = (omega arith, omega arith)
 number-range CoreNumber = (omega arith, omega arith)
 number-range Overload = (omega arith, omega arith)
 number-range (Slot slot) = (omega arith, omega arith)
+number-range Charge = (omega arith, omega arith)
+number-range (Cost task) = (omega arith, omega arith)

@@ -57,6 +57,20 @@ first-behind : (cs ds : List Condition) (k p : ℕ) → None cs → First ds k p
 first-behind [] ds k p n f = f
 first-behind (c ∷ cs) ds k p n f = inr (n .0, first-behind cs ds k p (n .1) f)
 
+-- a condition that does not hold where those before it do not can be left out of a list
+module _ (c : Condition) (ds : List Condition) where
+  none-without : (cs : List Condition) → (None cs → Fails c) → None (cs ++ c ∷ ds) ↔ None (cs ++ ds)
+  none-without cs f = (
+    λ n. let r = none-append cs (c ∷ ds) .0 n in none-append cs ds .1 (r .0, r .1 .1),
+    λ n. let r = none-append cs ds .0 n in none-append cs (c ∷ ds) .1 (r .0, (f (r .0), r .1)),
+  )
+
+  first-without : (cs : List Condition) → (None cs → Fails c) → (k p : ℕ) → First (cs ++ c ∷ ds) k p → First (cs ++ ds) k p
+  first-without [] f k p (inl a) = absurd (fails-nowhere c p (f tt) (a .1))
+  first-without [] f k p (inr a) = a .1
+  first-without (b ∷ cs) f k p (inl a) = inl a
+  first-without (b ∷ cs) f k p (inr a) = inr (a .0, first-without cs (λ n. f (a .0, n)) k p (a .1))
+
 -- ---- what an outcome reports of a list of conditions
 
 pub record Reports (cs : List Condition) (o : Outcome) : Type 0 where
@@ -158,6 +172,17 @@ join {cs = cs} {ds} a b = record {
     λ n. let r = none-append cs ds .0 n in (a .valid .0 (r .0), b .valid .0 (r .1)),
     λ v. none-append cs ds .1 (a .valid .1 (v .0), b .valid .1 (v .1)),
   );
+}
+
+-- A condition that never is the first to hold need not be named.
+pub unnamed : {Valid : Type 0} {o : Outcome} (cs : List Condition) (c : Condition) (ds : List Condition) → (None cs → Fails c)
+    → Tested Valid (cs ++ c ∷ ds) o → Tested Valid (cs ++ ds) o
+unnamed cs c ds f t = record {
+  reports = record {
+    accepted = λ e. none-without c ds cs f .0 (t .reports .accepted e);
+    refused = λ d e. first-without c ds cs f _ _ (t .reports .refused d e);
+  };
+  valid = (λ n. t .valid .0 (none-without c ds cs f .1 n), λ v. none-without c ds cs f .0 (t .valid .1 v));
 }
 
 -- what a decision says of an acceptance

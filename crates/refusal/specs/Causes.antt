@@ -1,7 +1,7 @@
 -- The paper's number and place of each cause of refusal, and of an outcome.
 use Prim.Native.Nat.{ℕ}
 use Rattle.refusal.specs.declared.Cause.{Cause}
-use Rattle.refusal.specs.declared.Cause.the-variants.{TooShort, TaskCount, CoreCount, Length, Period, Budget, Hyperperiod, Buffer, Placement, CoreNumber, Overload, Slot}
+use Rattle.refusal.specs.declared.Cause.the-variants.{TooShort, TaskCount, CoreCount, Length, Period, Budget, Hyperperiod, Buffer, Placement, CoreNumber, Overload, Slot, Charge, Cost}
 use Rattle.refusal.specs.declared.Outcome.{Outcome}
 use Rattle.refusal.specs.declared.Outcome.the-variants.{Accepted, Refused}
 
@@ -19,6 +19,8 @@ numberOf (Placement task) = 9
 numberOf CoreNumber = 10
 numberOf Overload = 11
 numberOf (Slot slot) = 12
+numberOf Charge = 13
+numberOf (Cost task) = 14
 
 -- its place, the first such task or slot counted from 1; 0 where the paper names none
 abbrev pub placeOf : Cause → ℕ
@@ -34,6 +36,8 @@ placeOf (Placement task) = task
 placeOf CoreNumber = 0
 placeOf Overload = 0
 placeOf (Slot slot) = slot
+placeOf Charge = 0
+placeOf (Cost task) = task
 
 -- number and place of an outcome: 0 and 0 where the call is accepted
 abbrev pub numberIn : Outcome → ℕ

@@ -17,6 +17,8 @@ pub enum Cause {
     CoreNumber,
     Overload,
     Slot(usize),
+    Charge,
+    Cost(usize),
 }
 
 // What a test, or several made in order, say of a call.
@@ -42,6 +44,8 @@ pub fn number(cause: Cause) -> u32
         Cause::CoreNumber => 10,
         Cause::Overload => 11,
         Cause::Slot(_) => 12,
+        Cause::Charge => 13,
+        Cause::Cost(_) => 14,
     }
 }
 
@@ -62,6 +66,8 @@ pub fn place(cause: Cause) -> usize
         Cause::CoreNumber => 0,
         Cause::Overload => 0,
         Cause::Slot(slot) => slot,
+        Cause::Charge => 0,
+        Cause::Cost(task) => task,
     }
 }
 
