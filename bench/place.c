@@ -5,7 +5,7 @@
 #include "harness.h"
 #include <alloca.h>
 
-uint32_t bench_search(const uint8_t *table, size_t table_len, uint32_t limit);
+uint32_t bench_search(const uint8_t *table, size_t table_len, uint32_t charge, uint32_t limit);
 
 enum { PLACES = 256, APART = 16, LIMIT = 200000 };
 
@@ -19,7 +19,7 @@ static __attribute__((noinline)) double at(size_t down, const uint8_t *table, si
     volatile uint8_t *below = alloca(down + APART);
     below[0] = 0;
     const double start = now();
-    bench_search(table, length, LIMIT);
+    bench_search(table, length, 0, LIMIT);
     return now() - start;
 }
 

@@ -5,12 +5,15 @@
 #include "harness.h"
 #include <alloca.h>
 
-/* The runner under test: makes a fresh core 1 with all tasks of the table on it, gives it full
-   requests (the largest number, each) for so many ticks, and returns the sum of the tasks run and
-   of the late tasks, so that no part of an answer can be left out.                              */
-uint64_t bench_tick(const uint8_t *table, size_t table_len, uint32_t ticks);
-#ifdef BEFORE
+/* The runner under test: makes a fresh core 1 with all tasks of the table on it, on a board with
+   this charge, gives it full requests (the largest number, each) for so many ticks, and returns
+   the sum of the tasks run and of the late tasks, so that no part of an answer can be left out.
+   An earlier version may know no charge.                                                        */
+uint64_t bench_tick(const uint8_t *table, size_t table_len, uint32_t charge, uint32_t ticks);
+#if defined BEFORE && BEFORE == 1
 uint64_t before_tick(const uint8_t *table, size_t table_len, uint32_t ticks);
+#elif defined BEFORE
+uint64_t before_tick(const uint8_t *table, size_t table_len, uint32_t charge, uint32_t ticks);
 #endif
 
 /* A stack may stand at 256 places of a page, and at some of them a tick takes longer: each side is
@@ -23,24 +26,36 @@ struct slot {
     uint32_t period, budget, until, remaining;
 };
 
+struct core {
+    struct slot slots[TASKS];
+    uint32_t charge;
+};
+
 struct answer {
     uint8_t number, place, run, late;
 };
 
-static int cannot_be(const struct slot *s)
+/* Budget and charge of a record from elsewhere may come to more than 32 bits. */
+static int cannot_be(uint32_t charge, const struct slot *s)
 {
+    const uint64_t cost = (uint64_t)s->budget + charge;
     if (s->period == 0)
         return s->budget != 0 || s->until != 0 || s->remaining != 0;
-    return s->period > 10000 || s->budget == 0 || s->budget > s->period || s->until >= s->period
-           || s->remaining > s->budget;
+    return s->period > 10000 || s->budget == 0 || cost > s->period || s->until >= s->period
+           || s->remaining > cost;
 }
 
 static MEASURED struct answer
-tick(struct slot core[TASKS], const uint32_t request[TASKS])
+tick(struct core *core, const uint32_t request[TASKS])
 {
     struct answer answer = {0, 0, 0, 0};
+    const uint32_t charge = core->charge;
+    if (charge > 9) {
+        answer.number = 12;
+        return answer;
+    }
     for (int k = 0; k < TASKS; k++)
-        if (cannot_be(&core[k])) {
+        if (cannot_be(charge, &core->slots[k])) {
             answer.number = 12;
             answer.place = (uint8_t)(k + 1);
             return answer;
@@ -50,13 +65,13 @@ tick(struct slot core[TASKS], const uint32_t request[TASKS])
        and counting down every slot does not change who is first. */
     struct slot *chosen = NULL;
     for (int k = 0; k < TASKS; k++) {
-        struct slot *s = &core[k];
+        struct slot *s = &core->slots[k];
         if (s->period == 0)
             continue;
         if (s->until == 0) {
             if (s->remaining > 0 && answer.late == 0)
                 answer.late = (uint8_t)(k + 1);
-            s->remaining = request[k] < s->budget ? request[k] : s->budget;
+            s->remaining = request[k] == 0 ? 0 : (request[k] < s->budget ? request[k] : s->budget) + charge;
             s->until = s->period;
         }
         s->until--;
@@ -65,39 +80,47 @@ tick(struct slot core[TASKS], const uint32_t request[TASKS])
     }
     if (chosen != NULL) {
         chosen->remaining--;
-        answer.run = (uint8_t)(chosen - core + 1);
+        answer.run = (uint8_t)(chosen - core->slots + 1);
     }
     return answer;
 }
 
-static uint32_t run_ticks(const uint32_t *periods, const uint32_t *budgets, uint32_t ticks)
+static uint32_t run_ticks(uint32_t charge, const uint32_t *periods, const uint32_t *budgets, uint32_t ticks)
 {
-    struct slot core[TASKS];
+    struct core core = {.charge = charge};
     uint32_t request[TASKS], sum = 0;
     for (int k = 0; k < TASKS; k++) {
-        core[k] = (struct slot){periods[k], budgets[k], 0, 0};
+        core.slots[k] = (struct slot){periods[k], budgets[k], 0, 0};
         request[k] = UINT32_MAX;
     }
     for (uint32_t k = 0; k < ticks; k++) {
-        const struct answer answer = tick(core, request);
+        const struct answer answer = tick(&core, request);
         sum += (uint32_t)answer.run + answer.late;
     }
     return sum;
 }
 
-/* The harness. Each sample has sixteen tasks whose load is one core at most. */
+/* The harness. Each sample has sixteen tasks whose load, with the charge, is one core at most;
+   those without a charge come first. */
 
 static const struct sample {
     const char *name;
+    uint32_t charge;
     uint32_t periods[TASKS], budgets[TASKS];
 } samples[] = {
-    {"equal periods, full",
+    {"equal periods, full", 0,
      {16, 16, 16, 16, 16, 16, 16, 16, 16, 16, 16, 16, 16, 16, 16, 16},
      {1, 1, 1, 1, 1, 1, 1, 1, 1, 1, 1, 1, 1, 1, 1, 1}},
-    {"mixed periods, full",
+    {"mixed periods, full", 0,
      {10, 20, 20, 40, 50, 80, 100, 100, 200, 250, 400, 500, 1000, 2000, 5000, 10000},
      {2, 2, 1, 4, 5, 4, 6, 5, 10, 10, 10, 10, 20, 40, 50, 1050}},
-    {"mixed periods, mostly idle",
+    {"mixed periods, mostly idle", 0,
+     {10, 20, 20, 40, 50, 80, 100, 100, 200, 250, 400, 500, 1000, 2000, 5000, 10000},
+     {1, 1, 1, 1, 1, 1, 1, 1, 1, 1, 1, 1, 1, 1, 1, 1}},
+    {"equal periods, charge 1", 1,
+     {32, 32, 32, 32, 32, 32, 32, 32, 32, 32, 32, 32, 32, 32, 32, 32},
+     {1, 1, 1, 1, 1, 1, 1, 1, 1, 1, 1, 1, 1, 1, 1, 1}},
+    {"mixed periods, charge 2", 2,
      {10, 20, 20, 40, 50, 80, 100, 100, 200, 250, 400, 500, 1000, 2000, 5000, 10000},
      {1, 1, 1, 1, 1, 1, 1, 1, 1, 1, 1, 1, 1, 1, 1, 1}},
 };
@@ -109,12 +132,14 @@ static uint64_t run_side(int side, const struct sample *sample, const uint8_t *t
 {
     switch (side) {
     case PLAIN:
-        return run_ticks(sample->periods, sample->budgets, TICKS);
+        return run_ticks(sample->charge, sample->periods, sample->budgets, TICKS);
     case TESTED:
-        return bench_tick(table, length, TICKS);
+        return bench_tick(table, length, sample->charge, TICKS);
     default:
-#ifdef BEFORE
+#if defined BEFORE && BEFORE == 1
         return before_tick(table, length, TICKS);
+#elif defined BEFORE
+        return before_tick(table, length, sample->charge, TICKS);
 #else
         return 0;
 #endif
@@ -140,7 +165,10 @@ static double nanoseconds(double time)
 
 int main(void)
 {
-    const size_t count = sizeof samples / sizeof samples[0];
+    size_t count = sizeof samples / sizeof samples[0];
+#if defined BEFORE && BEFORE == 1
+    count = 3;
+#endif
 #ifdef BEFORE
     const int sides = SIDES;
 #else

@@ -3,8 +3,8 @@
 
 #include "harness.h"
 
-/* The search under test: plans a table and returns the steps made. */
-uint32_t bench_search(const uint8_t *table, size_t table_len, uint32_t limit);
+/* The search under test: plans a table, here with charge 0, and returns the steps made. */
+uint32_t bench_search(const uint8_t *table, size_t table_len, uint32_t charge, uint32_t limit);
 
 /* The walk in plain C. Demands and cores are in planning order. */
 
@@ -121,7 +121,7 @@ int main(void)
             const double start = now();
             steps = walk(sample->times, TASKS, sample->cores, sample->period, sample->limit).steps;
             const double middle = now();
-            const uint32_t theirs = bench_search(table, sizeof table, sample->limit);
+            const uint32_t theirs = bench_search(table, sizeof table, 0, sample->limit);
             tested[round] = now() - middle;
             plain[round] = middle - start;
             if (theirs != steps) {

@@ -12,8 +12,8 @@ from random import Random
 import frame
 from calls import ceiling, plan, quick
 from plans import ALL, SPENT
-from samples import (LARGEST_WORD, damaged, level_table, packed_table, random_table,
-                     uneven_table)
+from samples import (LARGEST_WORD, damaged_board, level_table, packed_table, random_charge,
+                     random_table, uneven_table)
 
 # A complete walk of so many tasks has at most 93,752 steps.
 MOST_COMPLETED = 8
@@ -27,26 +27,29 @@ ExactLine = namedtuple("ExactLine", "number place verdict rejected steps placeme
 def main():
     seed, count, program = sys.argv[1:]
     rng = Random(int(seed))
-    tables = [draw(rng) for _ in range(int(count))]
-    heads = rows_of(program, b"".join(map(head_of, tables)), 2 * len(tables))
+    boards = [draw(rng) for _ in range(int(count))]
+    heads = rows_of(program, b"".join(head_of(*board) for board in boards), 2 * len(boards))
     quicks = [QuickLine(*split(row, 3)) for row in heads[::2]]
     ceilings = [CeilingLine(*row) for row in heads[1::2]]
-    limits = [draw_limits(rng, table, line.ceiling) for table, line in zip(tables, ceilings)]
-    plans = iter(rows_of(program, b"".join(map(plans_of, tables, limits)), sum(map(len, limits))))
+    limits = [draw_limits(rng, table, line.ceiling) for (table, _), line in zip(boards, ceilings)]
+    data = b"".join(plans_of(*board, row) for board, row in zip(boards, limits))
+    plans = iter(rows_of(program, data, sum(map(len, limits))))
 
-    refused = placed = bettered = ample = 0
-    for table, line, most, row in zip(tables, quicks, ceilings, limits):
+    refused = charged = placed = bettered = ample = 0
+    for (table, charge), line, most, row in zip(boards, quicks, ceilings, limits):
         exact = {limit: ExactLine(*split(next(plans), 5)) for limit in row}
         for clause, holds in clauses(table, line, most, exact).items():
             if not holds:
-                sys.exit(f"it does not hold that {clause}, table {table.hex()}:\n"
+                sys.exit(f"it does not hold that {clause}, table {table.hex()}, charge {charge}:\n"
                          f"{line}\n{most}\n{exact}")
         refused += line.number > 0
+        charged += line.number == 0 and charge > 0
         placed += line.number == 0 and line.rejected == 0
         bettered += min(answer.rejected for answer in exact.values()) < line.rejected
         ample += line.number == 0 and max(row) >= most.ceiling
-    print(f"{len(tables)} tables, {refused} refused; of the quick plans {placed} reject nothing, "
-          f"{bettered} more than the exact plan; {ample} planned with the ceiling as the limit")
+    print(f"{len(boards)} tables, {refused} refused, {charged} planned with a charge; "
+          f"of the quick plans {placed} reject nothing, {bettered} more than the exact plan; "
+          f"{ample} planned with the ceiling as the limit")
 
 
 def rows_of(program, data, count):
@@ -87,11 +90,12 @@ def clauses(table, line, most, exact):
 
 
 def draw(rng):
-    """Mostly up to eight tasks, nearly always accepted."""
+    """A table of mostly up to eight tasks and a charge, nearly always accepted."""
     n = rng.randint(9, 16) if rng.randrange(5) == 0 else rng.randint(1, MOST_COMPLETED)
     made = rng.choice([random_table, level_table, uneven_table, packed_table, packed_table])
-    table = made(rng, n, rng.randint(1, 4))
-    return damaged(rng, table) if rng.randrange(8) == 0 else table
+    charge = random_charge(rng)
+    table = made(rng, n, rng.randint(1, 4), charge)
+    return damaged_board(rng, table, charge) if rng.randrange(8) == 0 else (table, charge)
 
 
 def draw_limits(rng, table, ceiling):
@@ -101,15 +105,15 @@ def draw_limits(rng, table, ceiling):
     return sorted({rng.randint(0, n), n, n + rng.randint(1, 2 * n + 1)} | ample)
 
 
-def head_of(table):
+def head_of(table, charge):
     """The bytes of the quick plan's case and of the step ceiling's."""
-    return (frame.case(quick.CODE, quick.contents(table))
-            + frame.case(ceiling.CODE, ceiling.contents(table)))
+    return (frame.case(quick.CODE, quick.contents(table, charge))
+            + frame.case(ceiling.CODE, ceiling.contents(table, charge)))
 
 
-def plans_of(table, limits):
+def plans_of(table, charge, limits):
     """The bytes of the exact plan's case for each limit."""
-    return b"".join(frame.case(plan.CODE, plan.contents(table, limit)) for limit in limits)
+    return b"".join(frame.case(plan.CODE, plan.contents(table, charge, limit)) for limit in limits)
 
 
 def split(row, single):

@@ -10,22 +10,23 @@ import sys
 import frame
 from calls import ceiling, core, plan, quick, read, tick
 from samples import LARGEST_WORD, table_of
-from ticks import EMPTY, Slot
+from ticks import EMPTY, Record, Slot
 
 LONGEST = 1024
 FULL = [LARGEST_WORD] * 16
 ROW_C = table_of(1, [2, 3, 6], [1, 1, 1])
+FOUR_EIGHT = table_of(1, [4, 8], [1, 3])
 
 # A small input of each call, of a fresh core one accepted, one refused and one without a tick.
 SMALL = [
     (read, (ROW_C,)),
-    (plan, (table_of(1, [10] * 3, [7, 6, 4]), 6)),
-    (core, (ROW_C, [1, 1, 1], 1, [FULL] * 3)),
-    (core, (ROW_C, [1, 1, 1], 2, [FULL] * 2)),
-    (core, (ROW_C, [1, 0, 1], 1, [])),
-    (tick, ([Slot(4, 2, 0, 1)] + [EMPTY] * 15, FULL)),
-    (quick, (table_of(2, [10] * 6, [5, 4, 3, 3, 3, 2]),)),
-    (ceiling, (table_of(4, [10] * 5, [6] * 5),)),
+    (plan, (table_of(1, [10] * 3, [7, 6, 4]), 1, 6)),
+    (core, (FOUR_EIGHT, 1, [1, 1], 1, [FULL] * 3)),
+    (core, (FOUR_EIGHT, 1, [1, 1], 2, [FULL] * 2)),
+    (core, (FOUR_EIGHT, 1, [1, 0], 1, [])),
+    (tick, (Record(2, [Slot(4, 2, 0, 1)] + [EMPTY] * 15), FULL)),
+    (quick, (table_of(2, [10] * 6, [5, 4, 3, 3, 3, 2]), 0)),
+    (ceiling, (table_of(4, [10] * 5, [6] * 5), 3)),
 ]
 GOOD = frame.case(read.CODE, [ROW_C])
 
@@ -79,14 +80,16 @@ def wrong_lengths():
                 data = frame.case(call.CODE, contents[:k] + [other] + contents[k + 1:])
                 yield data + GOOD, standing(call, given, k)
     longest = bytes([16, 4]) + bytes(LONGEST - 2)
-    for call in (read, quick, ceiling):
-        yield frame.case(call.CODE, [longest]) + GOOD, (standing(call, (longest,), 1)
-                                                        + standing(read, (ROW_C,), 1))
+    for call, given in ((read, (longest,)), (plan, (longest, 9, 0)),
+                        (core, (longest, 9, [1] * LONGEST, 1, [])), (quick, (longest, 9)),
+                        (ceiling, (longest, 9))):
+        yield frame.case(call.CODE, call.contents(*given)) + GOOD, (
+            standing(call, given, call.HEAD) + standing(read, (ROW_C,), 1))
 
 
 def fewer_ticks_than_counted():
     """The largest count of ticks, of which three are there."""
-    given = (ROW_C, [1, 1, 1], 1, [FULL] * 3)
+    given = (FOUR_EIGHT, 1, [1, 1], 1, [FULL] * 3)
     contents = core.contents(*given)
     contents[core.HEAD - 1] = frame.number(LARGEST_WORD)
     return frame.case(core.CODE, contents), standing(core, given, len(contents))

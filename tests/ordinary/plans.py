@@ -1,11 +1,12 @@
-"""The plan of a table and a step limit, twice over: the best plan by trying all placements, and
-the steps and the stored placement by the walk. The two must agree on the complete walk."""
+"""The plan of a table, a charge and a step limit, twice over: the best plan by trying all
+placements, and the steps and the stored placement by the walk. The two must agree on the complete
+walk."""
 
 from collections import namedtuple
 from functools import lru_cache
 from itertools import product
 
-from tables import Refusal, read_table
+from tables import Refusal, read_board
 
 ALL, SHORT, SPENT = 0, 1, 2
 
@@ -18,14 +19,14 @@ MOST_TRIED = 6
 Answer = namedtuple("Answer", "number place verdict rejected steps placement")
 
 
-def plan(table, limit):
-    """The Answer to these table bytes and this step limit."""
-    tasks = read_table(table)
+def plan(table, charge, limit):
+    """The Answer to these table bytes, this charge and this step limit."""
+    tasks = read_board(table, charge)
     if isinstance(tasks, Refusal):
         return Answer(tasks.number, tasks.place, 0, 0, 0, [0] * 16)
 
     if tasks.n <= MOST_TRIED:
-        check_complete_walk(table)
+        check_complete_walk(table, charge)
     steps, placement, spent = steps_and_stored(tasks, limit)
     rejected = demand_on(0, tasks.demands, placement)
     verdict = SPENT if spent else SHORT if rejected > 0 else ALL
@@ -33,16 +34,16 @@ def plan(table, limit):
 
 
 @lru_cache(maxsize=None)
-def check_complete_walk(table):
+def check_complete_walk(table, charge):
     """The complete walk of an accepted table must end with the best plan."""
-    tasks = read_table(table)
+    tasks = read_board(table, charge)
     steps, placement, spent = steps_and_stored(tasks, None)
     assert placement == best_placement(tasks) and not spent
 
 
-def walk_length(table):
+def walk_length(table, charge):
     """The steps of the complete walk of an accepted table."""
-    return steps_and_stored(read_table(table), None)[0]
+    return steps_and_stored(read_board(table, charge), None)[0]
 
 
 def demand_on(choice, demands, placement):

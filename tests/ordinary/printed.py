@@ -1,5 +1,6 @@
 """Holds what a program prints to what the ordinary planner says, byte for byte. The program's name
-says which of the two it is: millplan prints the exact plan, quickplan the quick one.
+says which of the two it is: millplan prints the exact plan, quickplan the quick one, both with
+charge 0.
 
 usage: python3 printed.py SEED COUNT PROGRAM
 """
@@ -21,13 +22,13 @@ WORDS = ["all", "short", "spent"]
 
 def exact(table):
     """The exact plan, and the words of its last line."""
-    answer = plan(table, USUAL_LIMIT)
+    answer = plan(table, 0, USUAL_LIMIT)
     return answer, (WORDS[answer.verdict], answer.rejected, answer.steps)
 
 
 def quick(table):
     """The quick plan, and the words of its last line."""
-    answer = quick_plan(table)
+    answer = quick_plan(table, 0)
     return answer, ("quick", answer.rejected)
 
 

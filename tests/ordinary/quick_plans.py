@@ -1,10 +1,10 @@
-"""The quick plan of a table, by first fit. Every answer is held to the exact plan, which for few
-tasks is the best of all placements."""
+"""The quick plan of a table and a charge, by first fit. Every answer is held to the exact plan,
+which for few tasks is the best of all placements."""
 
 from collections import namedtuple
 
 from plans import ALL, MOST_TRIED, SPENT, USUAL_LIMIT, Answer, plan
-from tables import Refusal, read_table
+from tables import Refusal, read_board
 
 # The walk is long where not all placements are tried: so many steps of it are made.
 SHORT_WALK = 200
@@ -13,16 +13,16 @@ SHORT_WALK = 200
 QuickAnswer = namedtuple("QuickAnswer", "number place rejected placement")
 
 
-def quick_plan(table):
-    """The QuickAnswer to these table bytes."""
-    tasks = read_table(table)
+def quick_plan(table, charge):
+    """The QuickAnswer to these table bytes and this charge."""
+    tasks = read_board(table, charge)
     if isinstance(tasks, Refusal):
         return QuickAnswer(tasks.number, tasks.place, 0, [0] * 16)
 
     placement = first_fit(tasks)
     rejected = sum(tasks.demands[k] for k in range(tasks.n) if placement[k] == 0)
     answer = QuickAnswer(0, 0, rejected, placement + [0] * (16 - tasks.n))
-    check_clauses(table, tasks.n, answer)
+    check_clauses(table, charge, tasks.n, answer)
     return answer
 
 
@@ -40,17 +40,17 @@ def first_fit(tasks):
     return placement
 
 
-def check_clauses(table, n, quick):
+def check_clauses(table, charge, n, quick):
     """What is said of the quick plan of an accepted table and its exact plan."""
     # If nothing is rejected it is the exact plan, after one step for each task.
     if quick.rejected == 0:
         for limit in (n, n + 1, USUAL_LIMIT):
-            assert plan(table, limit) == Answer(0, 0, ALL, 0, n, quick.placement)
+            assert plan(table, charge, limit) == Answer(0, 0, ALL, 0, n, quick.placement)
 
     # It never rejects less than the exact plan.
-    exact = plan(table, USUAL_LIMIT if n <= MOST_TRIED else SHORT_WALK)
+    exact = plan(table, charge, USUAL_LIMIT if n <= MOST_TRIED else SHORT_WALK)
     assert exact.rejected <= quick.rejected or exact.verdict == SPENT
 
     # It is what the walk stores first.
-    first = plan(table, n)
+    first = plan(table, charge, n)
     assert (first.placement, first.rejected) == (quick.placement, quick.rejected)

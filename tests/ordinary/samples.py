@@ -1,11 +1,16 @@
-"""Tables as bytes: random ones, and those that show each refusal and each way of planning."""
+"""Tables as bytes: random ones, and those that show each refusal and each way of planning. A board
+is a table and a switch charge."""
 
 from functools import lru_cache
-from itertools import combinations
+from itertools import combinations, cycle
 
 from frame import number, numbers
+from tables import LARGEST_CHARGE, LARGEST_HYPERPERIOD, LONGEST_PERIOD, read_table
 
 LARGEST_WORD = 2**32 - 1
+
+# 256, 259 and 65,536 have small low bytes and must not be cut.
+REFUSED_CHARGES = [10, 255, 256, 259, 65_536, LARGEST_WORD]
 
 # Hyperperiods with many divisors, small and large, and some with few.
 FRAMES = [1, 2, 6, 7, 10, 12, 24, 30, 60, 100, 120, 128, 210, 360, 720, 840, 1000, 2520, 5040,
@@ -23,7 +28,23 @@ def put(row, at, entry):
     return list(row[:at]) + [entry] + list(row[at + 1:])
 
 
-# Random tables.
+def stretched(table, charge):
+    """An accepted table for a board with this charge: periods and demands are longer by the same
+    factor, so that it is planned as before. None where that is too long."""
+    tasks, by = read_table(table), charge + 1
+    if by * tasks.hyperperiod > LARGEST_HYPERPERIOD or by * max(tasks.periods) > LONGEST_PERIOD:
+        return None
+    return table_of(tasks.m, [by * p for p in tasks.periods],
+                    [by * budget - charge for budget in tasks.budgets])
+
+
+# Random boards. Of a table that is drawn for a charge, what is said of budgets and demands is said
+# with the charge, so that it is accepted on its board, and as full as without one.
+
+def random_charge(rng):
+    """A charge that is allowed, every third time 0."""
+    return rng.choice([0, rng.randint(1, LARGEST_CHARGE), rng.randint(1, LARGEST_CHARGE)])
+
 
 @lru_cache(maxsize=None)
 def divisors(hyperperiod, longest=10_000):
@@ -31,48 +52,49 @@ def divisors(hyperperiod, longest=10_000):
     return [d for d in range(1, min(hyperperiod, longest) + 1) if hyperperiod % d == 0]
 
 
-def random_periods(rng, n):
+def random_periods(rng, n, charge):
     """Periods with a common hyperperiod; short lists of choices make many equal ones."""
-    choices = divisors(rng.choice(FRAMES))
+    choices = [p for p in divisors(rng.choice([h for h in FRAMES if h > charge])) if p > charge]
     if rng.random() < 0.5:
         choices = rng.sample(choices, min(len(choices), rng.randint(1, 3)))
     return [rng.choice(choices) for _ in range(n)]
 
 
-def random_table(rng, n, m):
+def random_table(rng, n, m, charge=0):
     """An accepted table. Its load is often about what the cores hold, at times far below or above;
     every third table is made of few different budgets, so that equal demands are common."""
-    periods = random_periods(rng, n)
+    periods = random_periods(rng, n, charge)
     load = rng.choice([rng.uniform(0.1, 1.6), rng.uniform(0.8, 1.2)])
     share = min(1, load * m / n)
     if rng.random() < 1 / 3:
         parts = [rng.choice([1 / 4, 1 / 3, 1 / 2, 2 / 3, share]) for _ in range(n)]
     else:
         parts = [rng.uniform(0, min(1, 2 * share)) for _ in range(n)]
-    budgets = [max(1, round(p * part)) for p, part in zip(periods, parts)]
+    budgets = [max(1, round(p * part) - charge) for p, part in zip(periods, parts)]
     return table_of(m, periods, budgets)
 
 
-def level_table(rng, n, m):
+def level_table(rng, n, m, charge=0):
     """An accepted table with one or two different demands in all, by periods that mostly differ."""
     parts = rng.choice([2, 3, 4, 5, 6])
     shares = [rng.randint(1, parts) for _ in range(rng.randint(1, 2))]
-    periods = [parts * d for d in divisors(rng.choice([12, 60, 100, 720, 840, 1000]), 1000)]
+    periods = [parts * d for d in divisors(rng.choice([12, 60, 100, 720, 840, 1000]), 1000)
+               if d > charge]
     periods = [rng.choice(periods) for _ in range(n)]
-    return table_of(m, periods, [p // parts * rng.choice(shares) for p in periods])
+    return table_of(m, periods, [p // parts * rng.choice(shares) - charge for p in periods])
 
 
-def uneven_table(rng, n, m):
+def uneven_table(rng, n, m, charge=0):
     """An accepted table of a few heavy tasks, and light ones that fill what those leave."""
-    periods = random_periods(rng, n)
+    periods = random_periods(rng, n, charge)
     heavy = min(n, rng.randint(m, 2 * m))
     parts = [rng.uniform(0.25, 0.75) if k < heavy else rng.uniform(0, 0.2) for k in range(n)]
     rng.shuffle(parts)
-    budgets = [max(1, round(p * part)) for p, part in zip(periods, parts)]
+    budgets = [max(1, round(p * part) - charge) for p, part in zip(periods, parts)]
     return table_of(m, periods, budgets)
 
 
-def packed_table(rng, n, m):
+def packed_table(rng, n, m, charge=0):
     """An accepted table that fills its cores exactly, at times but for one tick of one task, or
     with one tick too much: the cores are cut up into tasks, the largest piece each time."""
     hyperperiod = rng.choice([20, 24, 30, 60, 100, 120, 360, 840, 9240])
@@ -83,11 +105,13 @@ def packed_table(rng, n, m):
         cut = rng.randint((largest + 3) // 4, largest // 2)
         demands += [cut, largest - cut]
     rng.shuffle(demands)
-    periods = [rng.choice([p for p in divisors(hyperperiod) if demand * p % hyperperiod == 0])
+    periods = [rng.choice([p for p in divisors((charge + 1) * hyperperiod)
+                           if demand * p % hyperperiod == 0
+                           and demand * p // hyperperiod > charge])
                for demand in demands]
-    budgets = [demand * p // hyperperiod for demand, p in zip(demands, periods)]
+    budgets = [demand * p // hyperperiod - charge for demand, p in zip(demands, periods)]
     at = rng.randrange(n)
-    budgets[at] = min(max(1, budgets[at] + rng.choice([-1, -1, 0, 0, 0, 1])), periods[at])
+    budgets[at] = min(max(1, budgets[at] + rng.choice([-1, -1, 0, 0, 0, 1])), periods[at] - charge)
     return table_of(m, periods, budgets)
 
 
@@ -111,7 +135,30 @@ def damaged(rng, table):
     return table
 
 
-# Tables that are not drawn at random.
+def damaged_board(rng, table, charge):
+    """Mostly the board as it is, otherwise one whose table has some damage, or one whose charge is
+    refused, or larger, so that a budget and it may pass the period."""
+    damage = rng.randint(1, 12)
+    if damage == 1:
+        return table, rng.choice(REFUSED_CHARGES)
+    if damage == 2:
+        return table, rng.randint(charge, LARGEST_CHARGE)
+    return damaged(rng, table), charge
+
+
+# Tables and boards that are not drawn at random.
+
+def in_turn(rows, charges):
+    """Each of these tables, or of other rows, and a charge: the charges are taken in turn."""
+    return list(zip(rows, cycle(charges)))
+
+
+def stretched_boards(tables):
+    """Boards of these tables, stretched for the charges 1 to 9 in turn where that can be."""
+    boards = [(stretched(table, charge), charge)
+              for table, charge in in_turn(tables, range(1, LARGEST_CHARGE + 1))]
+    return [board for board in boards if board[0] is not None]
+
 
 def paper_rows():
     """Rows a to d and j to l of the scope paper, and its listing."""
@@ -177,14 +224,19 @@ def entries():
     return tables
 
 
-def sets_of_faults():
-    """Every set of the numbers 2 to 7 at once; the lowest of the set must win."""
-    tables = []
-    for size in range(7):
-        for faults in combinations(range(2, 8), size):
-            periods, budgets = [10, 20, 30], [1, 2, 3]
+def sets_of_faults(numbers=(2, 3, 4, 13, 5, 6, 14, 7), most=8):
+    """Boards with every set of these numbers at once, up to so many; of a set the first in this
+    order must win."""
+    boards = []
+    for size in range(most + 1):
+        for faults in combinations(numbers, size):
+            periods, budgets, charge = [10, 20, 30], [1, 2, 3], 3
+            if 13 in faults:
+                charge = 10
             if 7 in faults:
                 periods[:2] = [1000, 1001]
+            if 14 in faults:
+                budgets[1] = periods[1] - charge + 1
             if 6 in faults:
                 budgets[0] = 0
             if 5 in faults:
@@ -196,8 +248,54 @@ def sets_of_faults():
                 table[1] = 5
             if 2 in faults:
                 table[0] = 17
-            tables.append(bytes(table))
-    return tables
+            boards.append((bytes(table), charge))
+    return boards
+
+
+def charges():
+    """Boards with each edge of a charge and of a budget with it (numbers 13 and 14), what comes
+    before and behind these, and what the charge does to the planning order and to full cores."""
+    plain = table_of(2, [100, 50, 20, 40], [30, 9, 5, 11])
+    boards = [(plain, charge) for charge in [*range(10), *REFUSED_CHARGES]]
+    # A budget that with the charge is one below its period, its period, and one above.
+    for at, charge in ((0, 1), (0, 9), (2, 5), (4, 1), (4, 9)):
+        for budget in (19 - charge, 20 - charge, 21 - charge, 20):
+            boards.append((table_of(2, [20] * 5, put([1] * 5, at, budget)), charge))
+    for period in (1, 2, 9, 10, 11, 256, 10_000):
+        for charge in (1, 9):
+            row = sorted({1, period - charge, period - charge + 1})
+            boards += [(table_of(1, [period], [budget]), charge) for budget in row if budget > 0]
+    # Every task of sixteen may be the first; of several the first is named.
+    boards += [(table_of(4, [20] * 16, put([2] * 16, at, 18)), 3) for at in range(16)]
+    boards += [(table_of(2, [10] * 4, budgets), 3)
+               for budgets in ([7, 8, 8, 8], [7, 7, 8, 10], [1, 10, 7, 8])]
+    # Each budget is held against its own period.
+    boards += [(table_of(2, [10, 20], [8, 5]), 3), (table_of(2, [20, 10], [8, 5]), 3),
+               (table_of(2, [20, 10], [5, 8]), 3)]
+    # 5 and 6 of any task come before 14 of any, 14 of any before 7.
+    boards += [(table_of(2, [10, 0], [10, 1]), 1), (table_of(2, [10, 10_001], [10, 1]), 9),
+               (table_of(2, [10, 10], [10, 0]), 1), (table_of(2, [10, 10], [10, 11]), 9),
+               (table_of(2, [1000, 1001, 10], [1, 1, 10]), 1),
+               (table_of(2, [1000, 1001], [1, 1]), 9), (table_of(2, [1000, 1001], [1000, 1001]), 1)]
+    # A refused charge comes behind 1 to 4 and before all else, whichever it is.
+    faulty = [bytes([1]), bytes([17, 1]), bytes([1, 5]), plain + b"\0", table_of(1, [0], [1]),
+              table_of(1, [10], [11]), table_of(1, [10], [10]), table_of(1, [1000, 1001], [1, 1])]
+    boards += [(table, charge) for table in faulty for charge in (10, 256, LARGEST_WORD)]
+    # The charge exchanges two tasks; it makes their demands equal, so that the periods decide.
+    boards += [(table_of(m, [10, 100], budgets), charge)
+               for m, budgets in ((2, [4, 45]), (1, [5, 54])) for charge in (0, 1, 2)]
+    boards += [(table_of(2, [1000, 10], [599, 5]), charge) for charge in (0, 1, 2)]
+    boards += [(table_of(2, [10, 1000], [5, 599]), charge) for charge in (0, 1, 2)]
+    boards.append((table_of(4, [20, 40, 60, 80, 100] * 3, [5, 13, 21, 29, 37] * 3), 3))
+    # Cores that are full without the charge and too small with it, or full with it.
+    boards += [(table_of(m, [20] * 4, [budget] * 4), charge)
+               for m, budget, charge in ((2, 10, 0), (2, 10, 1), (2, 9, 1), (2, 9, 2), (1, 4, 1),
+                                         (1, 4, 2), (4, 11, 9), (3, 5, 5))]
+    boards += [(table_of(1, [999, 1001], [first - charge, second - charge]), charge)
+               for first, second in ((500, 500), (499, 501)) for charge in (1, 9)]
+    # The most that can be rejected.
+    boards.append((table_of(1, [999, 1001] * 8, [990, 992] * 8), 9))
+    return boards
 
 
 def hyperperiods():

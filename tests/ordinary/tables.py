@@ -1,4 +1,5 @@
-"""Reads a stored table: the refusal that the scope paper names, or the task set."""
+"""Reads a stored table, beside it the switch charge of its board: the refusal that the papers
+name, or the task set."""
 
 from collections import namedtuple
 from math import lcm
@@ -7,16 +8,22 @@ MOST_TASKS = 16
 MOST_CORES = 4
 LONGEST_PERIOD = 10_000
 LARGEST_HYPERPERIOD = 1_000_000
+LARGEST_CHARGE = 9
 
 Refusal = namedtuple("Refusal", "number place")
 
-# budgets: the paper's times; hyperperiod: its frame H; demands: its weights.
+# budgets: the paper's times; hyperperiod: its frame H; demands: its weights, with the charge.
 # order: task numbers from 1, in planning order.
-TaskSet = namedtuple("TaskSet", "n m periods budgets hyperperiod demands order")
+TaskSet = namedtuple("TaskSet", "n m periods budgets charge hyperperiod demands order")
 
 
 def read_table(table):
-    """The Refusal of these bytes, or their TaskSet."""
+    """What the reader of the old form says: it has no charge, so neither 13 nor 14."""
+    return read_board(table, 0)
+
+
+def read_board(table, charge):
+    """The Refusal of these bytes on a board with this charge, or their TaskSet."""
     if len(table) < 2:
         return Refusal(1, 0)
     n, m = table[0], table[1]
@@ -26,6 +33,8 @@ def read_table(table):
         return Refusal(3, 0)
     if len(table) != 2 + 8 * n:
         return Refusal(4, 0)
+    if charge > LARGEST_CHARGE:
+        return Refusal(13, 0)
 
     periods = [word(table, 2 + 4 * k) for k in range(n)]
     budgets = [word(table, 2 + 4 * n + 4 * k) for k in range(n)]
@@ -37,14 +46,17 @@ def read_table(table):
         if not 1 <= budgets[k] <= periods[k]:
             return Refusal(6, k + 1)
     for k in range(n):
+        if budgets[k] + charge > periods[k]:
+            return Refusal(14, k + 1)
+    for k in range(n):
         if lcm(*periods[:k + 1]) > LARGEST_HYPERPERIOD:
             return Refusal(7, k + 1)
 
     hyperperiod = lcm(*periods)
-    demands = [exact(budgets[k] * hyperperiod, periods[k]) for k in range(n)]
+    demands = [exact((budgets[k] + charge) * hyperperiod, periods[k]) for k in range(n)]
     order = sorted(range(1, n + 1),
                    key=lambda task: (-demands[task - 1], periods[task - 1], task))
-    return TaskSet(n, m, periods, budgets, hyperperiod, demands, order)
+    return TaskSet(n, m, periods, budgets, charge, hyperperiod, demands, order)
 
 
 def word(table, at):

@@ -3,19 +3,22 @@ deadline first, which never sees a record."""
 
 from collections import namedtuple
 
-from tables import LONGEST_PERIOD, Refusal, read_table
+from tables import LARGEST_CHARGE, LONGEST_PERIOD, Refusal, read_board
 
 # until: ticks until the next release; remaining: ticks still owed.
 Slot = namedtuple("Slot", "period budget until remaining")
 EMPTY = Slot(0, 0, 0, 0)
 
+# charge: that of the board; slots: sixteen of them.
+Record = namedtuple("Record", "charge slots")
+
 # run and late are task numbers, 0 for none.
 TickAnswer = namedtuple("TickAnswer", "number place run late")
 
 
-def fresh_core(table, placement, core):
-    """The Refusal, or the record: sixteen slots."""
-    tasks = read_table(table)
+def fresh_core(table, charge, placement, core):
+    """The Refusal, or the Record."""
+    tasks = read_board(table, charge)
     if isinstance(tasks, Refusal):
         return tasks
     if len(placement) != tasks.n:
@@ -29,24 +32,29 @@ def fresh_core(table, placement, core):
     if load > tasks.hyperperiod:
         return Refusal(11, 0)
 
-    return [Slot(tasks.periods[k], tasks.budgets[k], 0, 0)
-            if k < tasks.n and placement[k] == core else EMPTY for k in range(16)]
+    slots = [Slot(tasks.periods[k], tasks.budgets[k], 0, 0)
+             if k < tasks.n and placement[k] == core else EMPTY for k in range(16)]
+    return Record(charge, slots)
 
 
 def tick(record, requests):
     """The next record and the TickAnswer."""
-    for k, slot in enumerate(record):
-        if cannot_be(slot):
+    charge, slots = record.charge, list(record.slots)
+    if charge > LARGEST_CHARGE:
+        return record, TickAnswer(12, 0, 0, 0)
+    for k, slot in enumerate(slots):
+        if cannot_be(slot, charge):
             return record, TickAnswer(12, k + 1, 0, 0)
 
     # 1. Release every slot whose time has come.
-    slots, late = list(record), 0
-    for k, slot in enumerate(record):
+    late = 0
+    for k, slot in enumerate(record.slots):
         if slot.period != 0 and slot.until == 0:
             if slot.remaining > 0 and late == 0:
                 late = k + 1
+            asked = min(requests[k], slot.budget)
             slots[k] = slot._replace(until=slot.period,
-                                     remaining=min(requests[k], slot.budget))
+                                     remaining=asked + charge if asked > 0 else 0)
 
     # 2. Run the slot that is due first, the lower number among equals.
     owing = [(slot.until, k) for k, slot in enumerate(slots) if slot.remaining > 0]
@@ -58,29 +66,37 @@ def tick(record, requests):
 
     # 3. One tick goes by.
     slots = [slot if slot.period == 0 else slot._replace(until=slot.until - 1) for slot in slots]
-    return slots, TickAnswer(0, 0, run, late)
+    return Record(charge, slots), TickAnswer(0, 0, run, late)
 
 
-def cannot_be(slot):
+def cannot_be(slot, charge):
     if slot.period == 0:
         return slot != EMPTY
     return (slot.period > LONGEST_PERIOD
             or not 1 <= slot.budget <= slot.period
+            or slot.budget + charge > slot.period
             or slot.until >= slot.period
-            or slot.remaining > slot.budget)
+            or slot.remaining > slot.budget + charge)
 
 
-def book(table, placement, core, all_requests):
+# The book. It is not told what the tick makes of a request.
+
+def owed_for(tasks, task, request):
+    """What a task is owed for a period at whose first tick it asks for so much."""
+    return 0 if request == 0 else min(tasks.budgets[task - 1], request) + tasks.charge
+
+
+def book(table, charge, placement, core, all_requests):
     """The task that earliest deadline first names at each tick of an accepted core."""
-    tasks = read_table(table)
+    tasks = read_board(table, charge)
     on_core = [task for task in range(1, tasks.n + 1) if placement[task - 1] == core]
     owed, had, named = {}, {}, []
     for now, requests in enumerate(all_requests):
         ends = {}
         for task in on_core:
-            period, budget = tasks.periods[task - 1], tasks.budgets[task - 1]
+            period = tasks.periods[task - 1]
             if now % period == 0:
-                owed[task] = min(budget, requests[task - 1])
+                owed[task] = owed_for(tasks, task, requests[task - 1])
                 had[task] = 0
             ends[task] = (now // period + 1) * period
         waiting = [task for task in on_core if had[task] < owed[task]]
@@ -93,10 +109,10 @@ def book(table, placement, core, all_requests):
     return named
 
 
-def run_core(table, placement, core, all_requests):
+def run_core(table, charge, placement, core, all_requests):
     """The Refusal of the fresh core, or the TickAnswers of this list of ticks. An accepted list
     must be what the book and the guarantee of served periods say."""
-    record = fresh_core(table, placement, core)
+    record = fresh_core(table, charge, placement, core)
     if isinstance(record, Refusal):
         return record
     answers = []
@@ -105,23 +121,24 @@ def run_core(table, placement, core, all_requests):
         answers.append(answer)
 
     runs = [answer.run for answer in answers]
-    assert runs == book(table, placement, core, all_requests)
+    assert runs == book(table, charge, placement, core, all_requests)
     assert all(answer.number == 0 and answer.late == 0 for answer in answers)
-    check_periods(table, placement, core, all_requests, runs)
+    assert record.charge == charge
+    check_periods(table, charge, placement, core, all_requests, runs)
     return answers
 
 
-def check_periods(table, placement, core, all_requests, runs):
+def check_periods(table, charge, placement, core, all_requests, runs):
     """Every complete period has received exactly what it is owed, an unfinished one no more;
     tasks elsewhere receive nothing."""
-    tasks = read_table(table)
+    tasks = read_board(table, charge)
     for task in range(1, tasks.n + 1):
         if placement[task - 1] != core:
             assert task not in runs
             continue
-        period, budget = tasks.periods[task - 1], tasks.budgets[task - 1]
+        period = tasks.periods[task - 1]
         for start in range(0, len(runs), period):
-            owed = min(budget, all_requests[start][task - 1])
+            owed = owed_for(tasks, task, all_requests[start][task - 1])
             received = runs[start:start + period].count(task)
             if start + period <= len(runs):
                 assert received == owed

@@ -7,8 +7,8 @@ use native.Mathlib.Omega.{arith}
 use native.Mathlib.Nat.{mod-lt}
 use borrow.Author.Tests.{lt-ltb, le-ltb}
 use Rattle.stored.specs.Form.{taskCount}
-use Rattle.edf.specs.declared.Slot.{Slot}
 use Rattle.edf.specs.Tick.{TickAnswer, tick}
+use Rattle.runner.specs.declared.Core.{Core}
 use Rattle.runner.specs.Answers.{tickAnswer}
 use Rattle.start.specs.Starts.{startOf}
 use Rattle.runner.specs.declared.Ticked.{Ticked}
@@ -20,43 +20,47 @@ pub plus-small : (sum task : ℕ) {next : ℕ} → next ≡ plus sum task → ne
 plus-small sum task e = rw e (mod-lt (sum + task % 65536) (omega arith))
 
 -- The sum so far and the record now give what is still to come.
-pub record Summing (start : List Slot) (ticks : ℕ) (requests : List ℕ) (slots : List Slot) (sum left : ℕ) : Type 0 where
+pub record Summing (start : Core) (ticks : ℕ) (requests : List ℕ) (now : Core) (sum left : ℕ) : Type 0 where
   pub asks : requests ≡ full
   pub small : sum < 4294967296
-  pub is : sumOfTasks sum slots left ≡ sumOfTasks 0 start ticks
+  pub is : sumOfTasks sum (now .charge) (now .slots) left ≡ sumOfTasks 0 (start .charge) (start .slots) ticks
 
-pub sum-start : (start : List Slot) (ticks : ℕ) (requests : List ℕ) → requests ≡ full → Summing start ticks requests start 0 ticks
+pub sum-start : (start : Core) (ticks : ℕ) (requests : List ℕ) → requests ≡ full → Summing start ticks requests start 0 ticks
 sum-start start ticks requests e = record { asks = e; small = omega arith; is = refl }
 
-module _ {start : List Slot} {ticks : ℕ} {requests : List ℕ} {slots : List Slot} {sum left : ℕ} (s : Summing start ticks requests slots sum left) where
-  sum-step : (k : ℕ) → left ≡ suc k → let a : TickAnswer = tick 0 slots full in sumOfTasks (plus (plus sum (a .run)) (a .late)) (a .slots) k ≡ sumOfTasks 0 start ticks
-  unfolding sumOfTasks
-  sum-step k e = sym (ap (sumOfTasks sum slots) e) ∙ s .is
+module _ {start : Core} {ticks : ℕ} {requests : List ℕ} {now : Core} {sum left : ℕ} (s : Summing start ticks requests now sum left) where
+  -- what is still to come after one more tick
+  abbrev later : TickAnswer → ℕ → ℕ
+  later a k = sumOfTasks (plus (plus sum (a .run)) (a .late)) (a .charge) (a .slots) k
 
-  pub sum-next : (t : Ticked) {one next : ℕ} → 0 < left → tickAnswer t ≡ tick 0 slots requests → one ≡ plus sum (t .run) → next ≡ plus one (t .late)
-      → Summing start ticks requests (t .core .slots) next (left - 1)
+  sum-step : (k : ℕ) → left ≡ suc k → later (tick (now .charge) (now .slots) full) k ≡ sumOfTasks 0 (start .charge) (start .slots) ticks
+  unfolding sumOfTasks
+  sum-step k e = sym (ap (sumOfTasks sum (now .charge) (now .slots)) e) ∙ s .is
+
+  pub sum-next : (t : Ticked) {one next : ℕ} → 0 < left → tickAnswer t ≡ tick (now .charge) (now .slots) requests → one ≡ plus sum (t .run)
+      → next ≡ plus one (t .late) → Summing start ticks requests (t .core) next (left - 1)
   unfolding tickAnswer
   sum-next t {one} {next} h w p q =
-      let a : tickAnswer t ≡ tick 0 slots full = w ∙ ap (tick 0 slots) (s .asks) in
+      let a : tickAnswer t ≡ tick (now .charge) (now .slots) full = w ∙ ap (tick (now .charge) (now .slots)) (s .asks) in
       let e : next ≡ plus (plus sum (t .run)) (t .late) = q ∙ ap (λ x. plus x (t .late)) p in
       record {
         asks = s .asks;
         small = plus-small one (t .late) q;
         is =
-            ap (λ x. sumOfTasks x (t .core .slots) (left - 1)) e
-            ∙ ap (λ b. sumOfTasks (plus (plus sum (b .run)) (b .late)) (b .slots) (left - 1)) a
+            ap (λ x. sumOfTasks x (t .core .charge) (t .core .slots) (left - 1)) e
+            ∙ ap (λ b. later b (left - 1)) a
             ∙ sum-step (left - 1) (omega arith);
       }
 
-  pub sum-done : left ≤ 0 → sum ≡ sumOfTasks 0 start ticks
+  pub sum-done : left ≤ 0 → sum ≡ sumOfTasks 0 (start .charge) (start .slots) ticks
   unfolding sumOfTasks
-  sum-done h = let e : left ≡ 0 = omega arith in ap (sumOfTasks sum slots) (sym e) ∙ s .is
+  sum-done h = let e : left ≡ 0 = omega arith in ap (sumOfTasks sum (now .charge) (now .slots)) (sym e) ∙ s .is
 
-pub bench-many : (table : List ℕ) (ticks : ℕ) {n : ℕ} → n ≡ taskCount table → 16 < n → 0 ≡ benchSum table ticks
+pub bench-many : (table : List ℕ) (charge ticks : ℕ) {n : ℕ} → n ≡ taskCount table → 16 < n → 0 ≡ benchSum table charge ticks
 unfolding benchSum
-bench-many table ticks e h = rw (lt-ltb 16 (taskCount table) (omega arith))
+bench-many table charge ticks e h = rw (lt-ltb 16 (taskCount table) (omega arith))
 
-pub bench-few : (table : List ℕ) (ticks : ℕ) {n r : ℕ} (started : Started) → n ≡ taskCount table → n ≤ 16
-    → started ≡ startOf table (take n (replicate 16 1)) 1 → r ≡ sumOfTasks 0 (started .core .slots) ticks → r ≡ benchSum table ticks
+pub bench-few : (table : List ℕ) (charge ticks : ℕ) {n r : ℕ} (started : Started) → n ≡ taskCount table → n ≤ 16
+    → started ≡ startOf table charge (take n (replicate 16 1)) 1 → r ≡ sumOfTasks 0 (started .core .charge) (started .core .slots) ticks → r ≡ benchSum table charge ticks
 unfolding benchSum
-bench-few table ticks started e h s q = rw (le-ltb 16 (taskCount table) (omega arith), ← e, ← s) q
+bench-few table charge ticks started e h s q = rw (le-ltb 16 (taskCount table) (omega arith), ← e, ← s) q

@@ -7,6 +7,7 @@ use lib.ListN.{take, replicate}
 use Rattle.stored.specs.Form.{taskCount}
 use Rattle.edf.specs.declared.Slot.{Slot}
 use Rattle.edf.specs.Tick.{TickAnswer, tick}
+use Rattle.runner.specs.declared.Core.{Core}
 use Rattle.start.specs.Starts.{startOf}
 
 -- every task asks for all it can
@@ -18,13 +19,14 @@ abbrev pub plus : ℕ → ℕ → ℕ
 plus sum task = (sum + task % 65536) % 4294967296
 
 -- the sum after some ticks of a record, where it was `sum` before them
-unfoldable pub sumOfTasks : ℕ → List Slot → ℕ → ℕ
-sumOfTasks sum slots zero = sum
-sumOfTasks sum slots (suc ticks) =
-    let a : TickAnswer = tick 0 slots full in
-    sumOfTasks (plus (plus sum (a .run)) (a .late)) (a .slots) ticks
+unfoldable pub sumOfTasks : ℕ → ℕ → List Slot → ℕ → ℕ
+sumOfTasks sum charge slots zero = sum
+sumOfTasks sum charge slots (suc ticks) =
+    let a : TickAnswer = tick charge slots full in
+    sumOfTasks (plus (plus sum (a .run)) (a .late)) (a .charge) (a .slots) ticks
 
--- the sum for a table with all its tasks on core 1; 0 for more than sixteen tasks
-unfoldable pub benchSum : List ℕ → ℕ → ℕ
-benchSum table ticks =
-    cond (ltb 16 (taskCount table)) 0 (sumOfTasks 0 (startOf table (take (taskCount table) (replicate 16 1)) 1 .core .slots) ticks)
+-- the sum for a table with all its tasks on core 1 of a board with this charge; 0 for more than sixteen tasks
+unfoldable pub benchSum : List ℕ → ℕ → ℕ → ℕ
+benchSum table charge ticks =
+    let core : Core = startOf table charge (take (taskCount table) (replicate 16 1)) 1 .core in
+    cond (ltb 16 (taskCount table)) 0 (sumOfTasks 0 (core .charge) (core .slots) ticks)

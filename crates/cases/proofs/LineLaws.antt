@@ -16,6 +16,7 @@ use Rattle.quick.specs.declared.QuickPlan.{QuickPlan}
 use Rattle.ceiling.specs.declared.StepCeiling.{StepCeiling}
 use Rattle.edf.specs.declared.Slot.{Slot}
 use Rattle.start.specs.declared.Started.{Started}
+use Rattle.runner.specs.declared.Core.{Core}
 use Rattle.runner.specs.declared.Ticked.{Ticked}
 use Rattle.text.specs.Ascii.{ascii}
 use Rattle.text.specs.Decimal.{front, digitsBy, decimal, field}
@@ -23,7 +24,7 @@ use Rattle.text.specs.Joined.{joined, fields}
 use Rattle.text.specs.Shown.{shown, Appended}
 use Rattle.text.specs.declared.Text.{Text}
 use Rattle.text.proofs.ClipLaws.{append-both, append-within, append-whole}
-use Rattle.cases.specs.Lines.{outcomeFields, slotFields, sizeFields, taskNumbers, taskFields, tableLine, verdictNumber, planLine, coreLine, tickLine, recordLine, quickLine, ceilingLine}
+use Rattle.cases.specs.Lines.{outcomeFields, slotFields, recordFields, sizeFields, taskNumbers, taskFields, tableLine, verdictNumber, planLine, coreLine, tickLine, recordLine, quickLine, ceilingLine}
 
 -- number and place
 module _ {t r : Text} {o : Outcome} where
@@ -40,6 +41,11 @@ pub slot-made : {t a b d r : Text} (s : Slot) → Appended t (field (s .period))
     → Appended b (field (s .until)) 21 d → Appended d (field (s .remaining)) 21 r → Appended t (slotFields s) 84 r
 unfolding slotFields
 slot-made s p q u v = append-both (append-both (append-both p q) u) v
+
+pub record-made : {t a r : Text} (c : Core) → Appended t (field (c .charge)) 21 a → Appended a (joined slotFields (c .slots)) 1344 r
+    → Appended t (recordFields c) 1365 r
+unfolding recordFields
+record-made c p q = append-both p q
 
 -- a table
 pub sizes-made : {t a b r : Text} (s : TaskSet) → Appended t (field (s .fields .n)) 21 a → Appended a (field (s .fields .m)) 21 b
@@ -83,7 +89,7 @@ ceiling-whole answer e i p q u = append-whole e (append-both (append-both (rw (s
 
 -- a fresh core
 pub core-whole : {t a b line : Text} (s : Started) {o : Outcome} → shown t ≡ [] → s .outcome ≡ o → Appended t (outcomeFields o) 41 a
-    → Appended a (joined slotFields (s .core .slots)) 1344 b → Appended b (ascii "\n") 1 line → shown line ≡ coreLine s
+    → Appended a (recordFields (s .core)) 1365 b → Appended b (ascii "\n") 1 line → shown line ≡ coreLine s
 unfolding coreLine
 core-whole s e i p q u = append-whole e (append-both (append-both (rw (sym i) at p) q) u) (omega arith)
 
@@ -94,7 +100,7 @@ module _ {t a b d : Text} (s : Ticked) {o : Outcome} (e : shown t ≡ []) (i : s
   unfolding tickLine
   tick-whole v = append-whole e (append-both (append-both (append-both (rw (sym i) at p) q) u) v) (omega arith)
 
-  pub record-whole : {f line : Text} → Appended d (joined slotFields (s .core .slots)) 1344 f → Appended f (ascii "\n") 1 line
+  pub record-whole : {f line : Text} → Appended d (recordFields (s .core)) 1365 f → Appended f (ascii "\n") 1 line
       → shown line ≡ recordLine s
   unfolding recordLine
   record-whole v w = append-whole e (append-both (append-both (append-both (append-both (rw (sym i) at p) q) u) v) w) (omega arith)

@@ -18,6 +18,7 @@ use Rattle.quick.specs.declared.QuickPlan.{QuickPlan}
 use Rattle.ceiling.specs.declared.StepCeiling.{StepCeiling}
 use Rattle.edf.specs.declared.Slot.{Slot}
 use Rattle.start.specs.declared.Started.{Started}
+use Rattle.runner.specs.declared.Core.{Core}
 use Rattle.runner.specs.declared.Ticked.{Ticked}
 
 -- number and place
@@ -27,6 +28,10 @@ outcomeFields o = decimal (numberIn o) ++ field (placeIn o)
 -- a slot: period, budget, ticks until release, ticks owed
 unfoldable pub slotFields : Slot → List ℕ
 slotFields s = field (s .period) ++ field (s .budget) ++ field (s .until) ++ field (s .remaining)
+
+-- a core record: its charge and its sixteen slots
+unfoldable pub recordFields : Core → List ℕ
+recordFields c = field (c .charge) ++ joined slotFields (c .slots)
 
 -- n, m and the hyperperiod
 unfoldable pub sizeFields : TaskSet → List ℕ
@@ -59,14 +64,14 @@ planLine a =
 
 -- code 3: a fresh core, and each of its ticks
 unfoldable pub coreLine : Started → List ℕ
-coreLine s = outcomeFields (s .outcome) ++ joined slotFields (s .core .slots) ++ ascii "\n"
+coreLine s = outcomeFields (s .outcome) ++ recordFields (s .core) ++ ascii "\n"
 
 unfoldable pub tickLine : Ticked → List ℕ
 tickLine t = outcomeFields (t .outcome) ++ field (t .run) ++ field (t .late) ++ ascii "\n"
 
 -- code 4: one tick, with the record handed back
 unfoldable pub recordLine : Ticked → List ℕ
-recordLine t = outcomeFields (t .outcome) ++ field (t .run) ++ field (t .late) ++ joined slotFields (t .core .slots) ++ ascii "\n"
+recordLine t = outcomeFields (t .outcome) ++ field (t .run) ++ field (t .late) ++ recordFields (t .core) ++ ascii "\n"
 
 -- code 5: a quick plan
 unfoldable pub quickLine : QuickPlan → List ℕ

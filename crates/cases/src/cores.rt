@@ -1,5 +1,5 @@
-// Code 3: a fresh core and its ticks. Blocks: table and placement, up to 1,024 bytes each; core number, 1 byte; tick count, 4 bytes;
-// for each tick, also where the core is refused, sixteen requests, 64 bytes.
+// Code 3: a fresh core and its ticks. Blocks: the table, up to 1,024 bytes; the charge, 4 bytes; the placement, up to 1,024 bytes;
+// core number, 1 byte; tick count, 4 bytes; for each tick, also where the core is refused, sixteen requests, 64 bytes.
 ghost use mathlib.Core.Path.{_≡_};
 ghost use Rattle.text.specs.Shown.{shown};
 ghost use Rattle.cases.specs.Lines.{coreLine, tickLine};
@@ -16,8 +16,7 @@ pub fn core_line(started: Started) -> Text
     let outcome = started.outcome;
     let start = lines::append_outcome(nothing, outcome);
     let core = started.core;
-    let slots = core.slots;
-    let record = lines::append_slots(start, slots);
+    let record = lines::append_record(start, core);
     text::append_bytes(record, b"\n")
 }
 

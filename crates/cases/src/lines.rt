@@ -1,9 +1,10 @@
 // The pieces that lines share.
 ghost use Rattle.text.specs.Shown.{Appended};
 ghost use Rattle.text.specs.Joined.{joined, fields};
-ghost use Rattle.cases.specs.Lines.{outcomeFields, slotFields};
+ghost use Rattle.cases.specs.Lines.{outcomeFields, slotFields, recordFields};
 use edf::Slot;
 use refusal::Outcome;
+use runner::Core;
 use text::Text;
 
 // Number and place.
@@ -58,7 +59,7 @@ fn append_slot(t: Text, s: Slot) -> Text
 }
 
 // Sixteen slots.
-pub fn append_slots(t: Text, slots: [Slot; 16]) -> Text
+fn append_slots(t: Text, slots: [Slot; 16]) -> Text
     ensures { λ r. ⌜ Appended t (joined slotFields slots) 1344 r ⌝ }
 {
     let mut longer = t;
@@ -70,4 +71,13 @@ pub fn append_slots(t: Text, slots: [Slot; 16]) -> Text
         k += 1;
     }
     longer
+}
+
+// A core record: its charge and its slots.
+pub fn append_record(t: Text, core: Core) -> Text
+    ensures { λ r. ⌜ Appended t (recordFields core) 1365 r ⌝ }
+{
+    let charge = text::append_field(t, core.charge as u64);
+    let slots = core.slots;
+    append_slots(charge, slots)
 }

@@ -19,6 +19,22 @@ fn read_exact(buffer: &mut [u8]) -> bool {
     block.whole & (block.length == length)
 }
 
+// A number that was read, and whether its block is whole.
+struct Number {
+    whole: bool,
+    value: u32,
+}
+
+// Reads a number, a block of 4 bytes.
+fn read_number() -> Number {
+    let mut bytes = [0u8; 4];
+    let whole = read_exact(&mut bytes);
+    Number {
+        whole: whole,
+        value: wire::word(&bytes, 0),
+    }
+}
+
 // Prints a table's line; false where the output fails.
 fn run_table(table: &[u8]) -> bool {
     let reading = stored::read_table(table);
@@ -26,24 +42,24 @@ fn run_table(table: &[u8]) -> bool {
 }
 
 // Reads a limit and prints the plan's line; false where the case is not whole or the output fails.
-fn run_plan(table: &[u8]) -> bool {
-    let mut limit = [0u8; 4];
-    if !read_exact(&mut limit) {
+fn run_plan(table: &[u8], charge: u32) -> bool {
+    let limit = read_number();
+    if !limit.whole {
         return false;
     }
-    let plan = planner::plan(table, wire::word(&limit, 0));
+    let plan = planner::plan(table, charge, limit.value);
     console::show(plans::plan_line(plan)).whole
 }
 
 // Prints the quick plan's line; false where the output fails.
-fn run_quick(table: &[u8]) -> bool {
-    let plan = quick::quick_plan(table);
+fn run_quick(table: &[u8], charge: u32) -> bool {
+    let plan = quick::quick_plan(table, charge);
     console::show(quicks::quick_line(plan)).whole
 }
 
 // Prints the step ceiling's line; false where the output fails.
-fn run_ceiling(table: &[u8]) -> bool {
-    let answer = ceiling::step_ceiling(table);
+fn run_ceiling(table: &[u8], charge: u32) -> bool {
+    let answer = ceiling::step_ceiling(table, charge);
     console::show(ceilings::ceiling_line(answer)).whole
 }
 
@@ -78,36 +94,40 @@ fn is_accepted(outcome: Outcome) -> bool {
 }
 
 // Reads core number and tick count, prints the core's line and runs its ticks; false where the case is not whole or the output fails.
-fn run_started(table: &[u8], placement: &[u8]) -> bool {
+fn run_started(table: &[u8], charge: u32, placement: &[u8]) -> bool {
     let mut number = [0u8; 1];
     if !read_exact(&mut number) {
         return false;
     }
-    let mut count = [0u8; 4];
-    if !read_exact(&mut count) {
+    let count = read_number();
+    if !count.whole {
         return false;
     }
-    let started = start::fresh(table, placement, number[0]);
+    let started = start::fresh(table, charge, placement, number[0]);
     if !console::show(cores::core_line(started)).whole {
         return false;
     }
     let outcome = started.outcome;
-    run_ticks(started.core, is_accepted(outcome), wire::word(&count, 0))
+    run_ticks(started.core, is_accepted(outcome), count.value)
 }
 
 // Reads a placement and runs the core; false where the case is not whole or the output fails.
-fn run_core(table: &[u8]) -> bool {
+fn run_core(table: &[u8], charge: u32) -> bool {
     let mut placement = [0u8; 1024];
     let block = blocks::read_block(&mut placement);
     if !block.whole {
         return false;
     }
     let n = block.length;
-    run_started(table, &placement[..n])
+    run_started(table, charge, &placement[..n])
 }
 
-// Reads a record and sixteen requests and prints the tick's line; false where the case is not whole or the output fails.
+// Reads a charge, slots and sixteen requests and prints the tick's line; false where the case is not whole or the output fails.
 fn run_record() -> bool {
+    let charge = read_number();
+    if !charge.whole {
+        return false;
+    }
     let mut record = [0u8; 256];
     if !read_exact(&mut record) {
         return false;
@@ -117,19 +137,38 @@ fn run_record() -> bool {
         return false;
     }
     let slots = records::slots_in(&record);
-    let core = Core { slots: slots };
+    let core = Core {
+        slots: slots,
+        charge: charge.value,
+    };
     console::show(records::record_line(core.tick(blocks::numbers_of(&requests)))).whole
 }
 
-// Runs a case whose first block was this table; false where there is no such code, the case is not whole, or the output fails.
+// Runs a case whose first blocks were this table and this charge; false where there is no such code, the case is not whole, or the output fails.
+fn run_charged(code: u8, table: &[u8], charge: u32) -> bool {
+    match code {
+        2 => run_plan(table, charge),
+        3 => run_core(table, charge),
+        5 => run_quick(table, charge),
+        6 => run_ceiling(table, charge),
+        _ => false,
+    }
+}
+
+// Reads a charge and runs a case whose first block was this table; false where the case is not whole or fails.
+fn run_on_board(code: u8, table: &[u8]) -> bool {
+    let charge = read_number();
+    if !charge.whole {
+        return false;
+    }
+    run_charged(code, table, charge.value)
+}
+
+// Runs a case whose first block was this table: only code 1 goes on without a charge. False where the case is not whole or fails.
 fn run_on(code: u8, table: &[u8]) -> bool {
     match code {
         1 => run_table(table),
-        2 => run_plan(table),
-        3 => run_core(table),
-        5 => run_quick(table),
-        6 => run_ceiling(table),
-        _ => false,
+        _ => run_on_board(code, table),
     }
 }
 
@@ -144,7 +183,7 @@ fn run_tabled(code: u8) -> bool {
     run_on(code, &table[..n])
 }
 
-// Runs a case by its code: each but code 4 begins with a table. False where there is no such code, the case is not whole, or the output fails.
+// Runs a case by its code: each but code 4, which begins with the charge, begins with a table. False where there is no such code, the case is not whole, or the output fails.
 fn run_case(code: u8) -> bool {
     match code {
         4 => run_record(),

@@ -1,4 +1,4 @@
-// Code 4: one tick of a given record. Blocks: the record, 256 bytes; sixteen requests, 64 bytes.
+// Code 4: one tick of a given record. Blocks: its charge, 4 bytes; its slots, 256 bytes; sixteen requests, 64 bytes.
 ghost use mathlib.Core.Path.{_≡_};
 ghost use Prim.Native.Nat.{_<_};
 ghost use Rattle.numbers.specs.Rows.{row};
@@ -52,7 +52,6 @@ pub fn record_line(ticked: Ticked) -> Text
     let run = text::append_field(start, ticked.run as u64);
     let late = text::append_field(run, ticked.late as u64);
     let core = ticked.core;
-    let slots = core.slots;
-    let record = lines::append_slots(late, slots);
+    let record = lines::append_record(late, core);
     text::append_bytes(record, b"\n")
 }

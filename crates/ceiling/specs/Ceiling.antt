@@ -22,6 +22,6 @@ unfoldable pub ceilingBy : Outcome → Fields → StepCeiling
 ceilingBy (Refused cause) f = record { outcome = Refused cause; ceiling = 0 }
 ceilingBy Accepted f = record { outcome = Accepted; ceiling = stepCeiling (f .m) (f .n) }
 
--- the answer for a table
-unfoldable pub ceilingOf : List ℕ → StepCeiling
-ceilingOf s = ceilingBy (tableOutcome s) (fieldsOf s)
+-- the answer for a table and the charge beside it
+unfoldable pub ceilingOf : List ℕ → ℕ → StepCeiling
+ceilingOf s charge = ceilingBy (tableOutcome s charge) (fieldsOf s charge)

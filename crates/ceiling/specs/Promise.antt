@@ -13,13 +13,13 @@ use Rattle.planner.specs.declared.Verdict.the-variants.{Spent}
 use Rattle.ceiling.specs.Ceiling.{stepCeiling}
 use Rattle.ceiling.specs.declared.StepCeiling.{StepCeiling}
 
-pub record Promise (table : List ℕ) (r : StepCeiling) : Type 0 where
+pub record Promise (table : List ℕ) (charge : ℕ) (r : StepCeiling) : Type 0 where
   -- It is the sum, over k from 1 to n, of the product over j from 1 to k of (the smaller of j and m, plus 1).
-  pub sum : Valid table → r .ceiling ≡ sumFromOne (λ k. productFromOne (λ j. min j (coreCount table) + 1) k) (taskCount table)
+  pub sum : Valid table charge → r .ceiling ≡ sumFromOne (λ k. productFromOne (λ j. min j (coreCount table) + 1) k) (taskCount table)
   -- The steps of the complete walk never exceed it,
-  pub steps : Valid table → length (walkOf (fieldsOf table)) ≤ r .ceiling
+  pub steps : Valid table charge → length (walkOf (fieldsOf table charge)) ≤ r .ceiling
   -- and the exact planner with a limit at or above it is never spent.
-  pub unspent : (limit : ℕ) → r .ceiling ≤ limit → planOf table limit .verdict ≢ Spent
+  pub unspent : (limit : ℕ) → r .ceiling ≤ limit → planOf table charge limit .verdict ≢ Spent
 
 -- the ceilings of 4, 8, 12 and 16 tasks on m cores
 abbrev pub fourCeilings : ℕ → List ℕ

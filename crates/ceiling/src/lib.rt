@@ -47,14 +47,14 @@ fn sum_of_products(n: u64, m: u64) -> u64
     sum
 }
 
-// The step ceiling of a stored table, to set the exact planner's limit by.
-pub fn step_ceiling(table: &[u8]) -> StepCeiling
-    ensures answer { λ r. ⌜ r ≡ ceilingOf (now (table .entry)) ⌝ }
-    ensures decides { λ r. ⌜ Decides (Valid (now (table .entry))) (conditions (now (table .entry))) (r .outcome) ⌝ }
-    ensures promise { λ r. ⌜ Promise (now (table .entry)) r ⌝ }
+// The step ceiling of a stored table on a board with this charge, to set the exact planner's limit by.
+pub fn step_ceiling(table: &[u8], charge: u32) -> StepCeiling
+    ensures answer { λ r. ⌜ r ≡ ceilingOf (now (table .entry)) charge ⌝ }
+    ensures decides { λ r. ⌜ Decides (Valid (now (table .entry)) charge) (conditions (now (table .entry)) charge) (r .outcome) ⌝ }
+    ensures promise { λ r. ⌜ Promise (now (table .entry)) charge r ⌝ }
     ensures refused { λ r. ⌜ (numberIn (r .outcome) ≢ 0 → r .ceiling ≡ 0) ⌝ }
 {
-    let reading = stored::read_table(table);
+    let reading = stored::read_charged(table, charge);
     let outcome = reading.outcome;
     match outcome {
         Outcome::Refused(cause) => StepCeiling {

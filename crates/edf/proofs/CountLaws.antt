@@ -54,6 +54,7 @@ module _ (charge i : ℕ) where
   -- Up to its next release a slot receives what remains of its job.
   job : (ticks : List (List ℕ)) (slots : List Slot) (u : ℕ) → Good charge slots → 0 < slotAt slots i .period → slotAt slots i .until ≡ u
       → Receives (u ≤ length ticks) (count (suc i) (take u (runs (ticked charge slots ticks)))) (slotAt slots i .remaining)
+  unfolding stepped
   job ticks slots zero g h e = record { most = zero-le; exact = λ _. sym (prompt charge slots i (g .met 0) e) }
   job [] slots (suc u) g h e = record { most = zero-le; exact = λ w. absurd (omega arith) }
   job (requests ∷ rest) slots (suc u) g h e =
@@ -68,6 +69,7 @@ module _ (charge i : ℕ) where
       → slotAt slots i .period ≡ suc p → slotAt slots i .budget ≡ b → slotAt slots i .until ≡ u → start ≡ u + k * suc p → start < length ticks
       → Receives (start + suc p ≤ length ticks) (count (suc i) (take (suc p) (drop start (runs (ticked charge slots ticks)))))
       (owedFor charge b (request (getD ticks start []) (suc i)))
+  unfolding stepped
   periods p b [] slots start u k g hp hb e at l = absurd (omega arith)
   periods p b (requests ∷ rest) slots zero u k g hp hb e at l =
       let z : slotAt slots i .until ≡ 0 = omega arith in

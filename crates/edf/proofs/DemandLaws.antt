@@ -1,11 +1,11 @@
 -- The demand bound: what the slots owe up to a horizon, and what a release and the advance of a tick do to it.
-use Prim.Native.Nat.{ℕ, zero, suc, _+_, _*_, _-_, _/_, _≤_, _<_, zero-le, suc-le-suc}
+use Prim.Native.Nat.{ℕ, zero, suc, _+_, _*_, _-_, _/_, _≤_, _<_, min, zero-le, suc-le-suc}
 use mathlib.Core.Path.{_≡_, refl, _∙_}
 use mathlib.Core.Logic.{_⊎_, inl, inr}
 use mathlib.Core.Bool.{true, false, not, cond, and-false}
 use mathlib.Core.List.{List}
 use native.Mathlib.Omega.{arith}
-use native.Mathlib.Nat.{le-refl, le-trans, div-zero, div-eq-sub-div, div-mul-le-self, le-div-iff-mul-le, mul-le-mul-right, eq-zero-or-pos, min-le-right, add-le-add, sub-zero}
+use native.Mathlib.Nat.{le-refl, le-trans, div-zero, div-eq-sub-div, div-mul-le-self, le-div-iff-mul-le, mul-le-mul-right, eq-zero-or-pos, min-le-right, add-zero, add-le-add, sub-zero}
 use native.Mathlib.Decide.{decLe}
 use lib.Dec.{leb, eqb}
 use borrow.Author.Tests.{le-leb, lt-leb, eq-eqb, ne-eqb}
@@ -31,6 +31,12 @@ due-later s h = rw (ne-eqb (s .until) 0 (λ q. omega arith)) (and-false (not (eq
 -- The advance of an occupied slot.
 pub advance-occupied : (k : ℕ) (s : Slot) → 0 < s .period → advance k s ≡ advanced s
 advance-occupied k s h = rw (ne-eqb (s .period) 0 (λ q. omega arith)) refl
+
+-- Where there is no charge a task is owed the smaller of request and budget.
+pub owed-uncharged : (budget asked : ℕ) → owedFor 0 budget asked ≡ min asked budget
+unfolding owedFor
+owed-uncharged budget asked =
+    cond-both (λ n. min asked budget + n ≡ min asked budget) (eqb asked 0) 0 0 (add-zero _) (add-zero _)
 
 -- A task is owed at most its budget and the charge.
 pub owed-most : (charge budget asked : ℕ) → owedFor charge budget asked ≤ budget + charge

@@ -18,7 +18,7 @@ use Rattle.edf.specs.Slots.{emptySlot, slotAt, CanBe}
 use Rattle.edf.specs.Tick.{TickAnswer, owedFor, stepped, ticked}
 use Rattle.edf.specs.Fresh.{Tasks, period, budget, coreOf, firstRelease, freshSlot, freshSlots}
 use Rattle.edf.specs.Book.{newEntry, entriesFrom, book, names}
-use Rattle.edf.specs.Guarantee.{answers, runs, periodStart, receivedIn, owedIn, TickGuarantee, WithinLimits, LoadFits, ReleasedSoon}
+use Rattle.edf.specs.Guarantee.{runs, periodStart, receivedIn, owedIn, TickGuarantee, WithinLimits, LoadFits, ReleasedSoon}
 use Rattle.edf.proofs.SlotLaws.{totalOver, total-row}
 use Rattle.edf.proofs.DemandLaws.{jobs, demandBound, demand-empty, demand-idle}
 use Rattle.edf.proofs.StepLaws.{Good, tick-stepped, stepped-good, none-late}
@@ -48,6 +48,7 @@ all-zero : (f : TickAnswer → ℕ) (charge : ℕ)
     → ((slots : List Slot) (requests : List ℕ) → Good charge slots → f (stepped charge slots requests) ≡ 0)
     → (ticks : List (List ℕ)) (slots : List Slot) → Good charge slots
     → map f (ticked charge slots ticks) ≡ replicate (length ticks) 0
+unfolding stepped
 all-zero f charge h [] slots g = refl
 all-zero f charge h (requests ∷ rest) slots g =
     let after : List Slot = stepped charge slots requests .slots in
@@ -89,6 +90,7 @@ module _ (H : ℕ) (demands : ℕ → ℕ) (tasks : Tasks) (core : ℕ) (v : Wit
 
   fresh-good : Good (tasks .charge) (freshSlots tasks core)
   fresh-good = record {
+    small = v .charge-most;
     fit = fresh-can-be;
     rated = λ y. fresh-most y (jobs (tasks .charge) y) (rw (div-zero y) (zero-mul _)) (λ k. le-refl _);
     met = λ x.
@@ -147,7 +149,7 @@ module _ (H : ℕ) (demands : ℕ → ℕ) (tasks : Tasks) (core : ℕ) (v : Wit
   -- What the task receives in a period, by the request that the period's first tick reads.
   received : (ticks : List (List ℕ)) (k p : ℕ) → k < tasks .n → coreOf tasks k ≡ core → periodStart tasks k p < length ticks
       → Receives (periodStart tasks k p + period tasks k ≤ length ticks)
-      (receivedIn tasks (answers tasks (freshSlots tasks core) ticks) k p) (owedIn tasks ticks k p)
+      (receivedIn tasks (ticked (tasks .charge) (freshSlots tasks core) ticks) k p) (owedIn tasks ticks k p)
   unfolding owedFor
   received ticks k p b c l =
       let at = fresh-at k b c in
@@ -158,17 +160,18 @@ module _ (H : ℕ) (demands : ℕ → ℕ) (tasks : Tasks) (core : ℕ) (v : Wit
       (firstRelease tasks k) p fresh-good (ap (λ (s : Slot). s .period) at ∙ sym T) (ap (λ (s : Slot). s .budget) at)
       (ap (λ (s : Slot). s .until) at) (rw T refl) l)
 
--- Demand 3: for the fresh record of a core whose load is at most the hyperperiod, and every list of ticks.
+-- Demand 3: for the fresh record of a core whose load is at most the hyperperiod, with the charge of its tasks, and every list of ticks.
 pub tick-guarantee : (H : ℕ) (demands : ℕ → ℕ) (tasks : Tasks) (core : ℕ) → WithinLimits H demands tasks → LoadFits H demands tasks core → ReleasedSoon tasks core
-    → (slots : List Slot) → slots ≡ freshSlots tasks core → (ticks : List (List ℕ)) → TickGuarantee tasks core slots ticks
+    → (charge : ℕ) → charge ≡ tasks .charge → (slots : List Slot) → slots ≡ freshSlots tasks core
+    → (ticks : List (List ℕ)) → TickGuarantee tasks core charge slots ticks
 unfolding stepped
-tick-guarantee H demands tasks core v fits soon slots e ticks =
+tick-guarantee H demands tasks core v fits soon charge c slots e ticks =
     let fresh : List Slot = freshSlots tasks core in
     let good : Good (tasks .charge) fresh = fresh-good H demands tasks core v fits soon in
-    let same : runs (answers tasks fresh ticks) ≡ names tasks core ticks =
+    let same : runs (ticked (tasks .charge) fresh ticks) ≡ names tasks core ticks =
     follows (tasks .charge) ticks 0 fresh (book tasks core) good (fresh-beside H demands tasks core v fits soon) in
     let served = received H demands tasks core v fits soon ticks in
-    rw e (record {
+    rw (c, e) (record {
       none-refused = all-zero (λ a. a .refusal) (tasks .charge) (λ _ _ _. refl) ticks fresh good;
       none-late = all-zero (λ a. a .late) (tasks .charge) (λ s _ g. none-late (tasks .charge) s (g .met 0)) ticks fresh good;
       earliest-first = same;

@@ -64,4 +64,4 @@ claimed-names charge (requests ∷ rest) t es o =
 pub book-names-earliest : (tasks : Tasks) (core : ℕ) (ticks : List (List ℕ)) → EachNamesEarliest (claimsOver tasks core ticks) (names tasks core ticks)
 unfolding book
 book-names-earliest tasks core ticks =
-    claimed-names (tasks .charge) ticks 0 (book tasks core) (entries-ordered tasks core 0 (tasks .n))
+    claimed-names _ ticks 0 (book tasks core) (entries-ordered tasks core 0 (tasks .n))

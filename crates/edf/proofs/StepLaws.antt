@@ -21,6 +21,7 @@ use Rattle.edf.proofs.ChoiceLaws.{run-active, serves}
 module _ (charge : ℕ) where
   -- The invariant before each tick.
   pub record Good (slots : List Slot) : Type 0 where
+    pub small : charge ≤ 9
     pub fit : (i : ℕ) → CanBe charge (slotAt slots i)
     pub rated : (y : ℕ) → totalOver (jobs charge y) slots ≤ y
     pub met : (x : ℕ) → totalOver (demandBound charge x) slots ≤ x
@@ -41,7 +42,10 @@ module _ (charge : ℕ) where
   pub tick-stepped : (slots : List Slot) (requests : List ℕ) → Good slots → tick charge slots requests ≡ stepped charge slots requests
   unfolding tick firstSlot slotTest
   tick-stepped slots requests g =
-      rw (first-clear (slotTest (cannotBe charge) slots) 16 (λ i _. allowed (slotAt slots i) (g .fit i))) refl
+      rw (
+        le-ltb 9 charge (g .small),
+        first-clear (slotTest (cannotBe charge) slots) 16 (λ i _. allowed (slotAt slots i) (g .fit i)),
+      ) refl
 
   -- Nobody is late: at a release nothing is owed.
   pub prompt : (slots : List Slot) (i : ℕ) → totalOver (demandBound charge 0) slots ≤ 0 → slotAt slots i .until ≡ 0 → slotAt slots i .remaining ≡ 0
@@ -79,6 +83,7 @@ module _ (charge : ℕ) where
       total-each (demandBound charge x) (demandBound charge x) (release charge requests) 1 slots
       (λ k i. release-demand charge requests k (slotAt slots i) x (g .fit i)) x (g .met x) in
       record {
+        small = g .small;
         fit = λ i. rw (each-at advance (λ k. refl) after i) (advance-can-be charge (suc i) (slotAt after i) (b i));
         rated = λ y.
             total-each (jobs charge y) (jobs charge y) advance 1 after

@@ -1,7 +1,7 @@
 -- The tasks of a core, and the record that it starts from.
 use Prim.Native.Nat.{ℕ}
 use mathlib.Core.Bool.{cond}
-use mathlib.Core.List.{List, []}
+use mathlib.Core.List.{List}
 use lib.Dec.{eqb}
 use Rattle.numbers.specs.Rows.{row, entry}
 use Rattle.edf.specs.declared.Slot.{Slot}
@@ -16,10 +16,6 @@ pub record Tasks : Type 0 where
   pub placement : List ℕ
   pub charge : ℕ
   pub firstReleases : List ℕ
-
--- the tasks of the base: no charge, and every task released at tick 0
-abbrev pub plainTasks : ℕ → List ℕ → List ℕ → List ℕ → Tasks
-plainTasks n periods budgets placement = record { n = n; periods = periods; budgets = budgets; placement = placement; charge = 0; firstReleases = [] }
 
 abbrev pub period : Tasks → ℕ → ℕ
 period tasks k = entry (tasks .periods) k

@@ -13,10 +13,6 @@ use Rattle.edf.specs.Fresh.{Tasks, period, budget, coreOf, firstRelease}
 use Rattle.edf.specs.Earliest.{EachNamesEarliest}
 use Rattle.edf.specs.Book.{claimsOver, names}
 
--- the answers to a list of ticks, the first of them made on the given record
-abbrev pub answers : Tasks → List Slot → List (List ℕ) → List TickAnswer
-answers tasks slots ticks = ticked (tasks .charge) slots ticks
-
 -- the tasks that the answers name as run
 abbrev pub runs : List TickAnswer → List ℕ
 runs = map (λ a. a .run)
@@ -42,28 +38,29 @@ askedIn tasks ticks k p = entry (getD ticks (periodStart tasks k p) []) k
 abbrev pub owedIn : Tasks → List (List ℕ) → ℕ → ℕ → ℕ
 owedIn tasks ticks k p = min (askedIn tasks ticks k p) (budget tasks k) + cond (eqb (askedIn tasks ticks k p) 0) 0 (tasks .charge)
 
--- The claim about one list of ticks from a record. The task at k has number k + 1. Its period number p is complete once the ticks up to the start
--- of the next were made, and begun once the one at its own start was.
-pub record TickGuarantee (tasks : Tasks) (core : ℕ) (slots : List Slot) (ticks : List (List ℕ)) : Type 0 where
+-- The claim about one list of ticks from the record with this charge and these slots. The task at k has number k + 1. Its period number p is
+-- complete once the ticks up to the start of the next were made, and begun once the one at its own start was.
+pub record TickGuarantee (tasks : Tasks) (core charge : ℕ) (slots : List Slot) (ticks : List (List ℕ)) : Type 0 where
   -- Whatever any task asks for at each tick: no tick is refused
-  pub none-refused : map (λ a. a .refusal) (answers tasks slots ticks) ≡ replicate (length ticks) 0
+  pub none-refused : map (λ a. a .refusal) (ticked charge slots ticks) ≡ replicate (length ticks) 0
   -- or reports a late task,
-  pub none-late : map (λ a. a .late) (answers tasks slots ticks) ≡ replicate (length ticks) 0
+  pub none-late : map (λ a. a .late) (ticked charge slots ticks) ≡ replicate (length ticks) 0
   -- and each runs the task that earliest deadline first names.
-  pub earliest-first : runs (answers tasks slots ticks) ≡ names tasks core ticks
+  pub earliest-first : runs (ticked charge slots ticks) ≡ names tasks core ticks
   -- Earliest is of the book's claims at that tick: none has a sooner deadline, and none with the same a lower number.
-  pub each-earliest : EachNamesEarliest (claimsOver tasks core ticks) (runs (answers tasks slots ticks))
+  pub each-earliest : EachNamesEarliest (claimsOver tasks core ticks) (runs (ticked charge slots ticks))
   -- After the list, what a task on that core received in each of its complete periods is what it is owed for it.
   pub complete : (k p : ℕ) → k < tasks .n → coreOf tasks k ≡ core → periodStart tasks k (p + 1) ≤ length ticks
-      → receivedIn tasks (answers tasks slots ticks) k p ≡ owedIn tasks ticks k p
+      → receivedIn tasks (ticked charge slots ticks) k p ≡ owedIn tasks ticks k p
   -- Within an unfinished period it never exceeds that.
   pub unfinished : (k p : ℕ) → k < tasks .n → coreOf tasks k ≡ core → periodStart tasks k p < length ticks
-      → receivedIn tasks (answers tasks slots ticks) k p ≤ owedIn tasks ticks k p
+      → receivedIn tasks (ticked charge slots ticks) k p ≤ owedIn tasks ticks k p
 
 -- The theorem rests on three premises. The first is the limits of a table, as far as they matter here. A demand is the paper's weight:
 -- budget and charge times hyperperiod H divided by the period, exactly.
 pub record WithinLimits (H : ℕ) (demand : ℕ → ℕ) (tasks : Tasks) : Type 0 where
   pub tasks-most : tasks .n ≤ 16
+  pub charge-most : tasks .charge ≤ 9
   pub hyperperiod-least : 1 ≤ H
   pub period-least : (k : ℕ) → k < tasks .n → 1 ≤ period tasks k
   pub period-most : (k : ℕ) → k < tasks .n → period tasks k ≤ 10000

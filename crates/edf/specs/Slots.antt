@@ -37,7 +37,7 @@ eachFrom k f (s ∷ slots) = f k s ∷ eachFrom (suc k) f slots
 abbrev pub each : (ℕ → Slot → Slot) → List Slot → List Slot
 each f slots = eachFrom 1 f slots
 
--- The charge is what a task is owed for a period beside its request; the base has none, which is 0.
+-- `charge` is the paper's charge; the field's word is switch cost. A task that asks for any ticks in a period is owed it beside them.
 module _ (charge : ℕ) where
   -- a slot that cannot be: it has period 0 and another field that is not 0, or it is occupied and has a period above 10,000,
   -- a budget of 0 or, with the charge, above the period, a release not within the period, or more ticks owed than its budget and the charge

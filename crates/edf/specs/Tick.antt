@@ -1,4 +1,4 @@
--- One tick of a core on a board with a switch charge (0 in the base): the paper's three steps and its refusal 12; and a list of ticks.
+-- One tick of a core on a board with a switch charge: the paper's three steps and its refusal 12; and a list of ticks.
 use Prim.Native.Nat.{ℕ, suc, _+_, _-_, min}
 use mathlib.Core.Bool.{Bool, cond, _&&_}
 use mathlib.Core.List.{List, [], _∷_}
@@ -68,29 +68,35 @@ advance k s = cond (occupied s) (advanced s) s
 unfoldable pub advanceAll : ℕ → List Slot → List Slot
 advanceAll task slots = each advance (each (run task) slots)
 
--- What a tick hands back: the number and place of a refusal, 0 and 0 if there is none; the next record; the task run, 0 for idle; the late task, 0 for none.
+-- What a tick hands back: the number and place of a refusal, 0 and 0 if there is none; the next record, which is its charge and its slots;
+-- the task run, 0 for idle; the late task, 0 for none.
 pub record TickAnswer : Type 0 where
   pub refusal : ℕ
   pub place : ℕ
+  pub charge : ℕ
   pub slots : List Slot
   pub run : ℕ
   pub late : ℕ
 
 -- number 12, with the record as it was
-unfoldable pub refusedTick : List Slot → ℕ → TickAnswer
-refusedTick slots place = record { refusal = 12; place = place; slots = slots; run = 0; late = 0 }
+unfoldable pub refusedTick : ℕ → List Slot → ℕ → TickAnswer
+refusedTick charge slots place = record { refusal = 12; place = place; charge = charge; slots = slots; run = 0; late = 0 }
 
 module _ (charge : ℕ) where
   -- the three steps in order
   unfoldable pub stepped : List Slot → List ℕ → TickAnswer
   stepped slots requests =
       let ready : List Slot = releaseAll charge requests slots in
-      record { refusal = 0; place = 0; slots = advanceAll (chosen ready) ready; run = chosen ready; late = firstLate slots }
+      record { refusal = 0; place = 0; charge = charge; slots = advanceAll (chosen ready) ready; run = chosen ready; late = firstLate slots }
 
+  -- A charge above 9 is refused with place 0, before any slot is looked at; then the first slot that cannot be is refused.
   unfoldable pub tick : List Slot → List ℕ → TickAnswer
-  tick slots requests = cond (eqb (firstWrong charge slots) 0) (stepped slots requests) (refusedTick slots (firstWrong charge slots))
+  tick slots requests =
+      cond (ltb 9 charge) (refusedTick charge slots 0)
+      (cond (eqb (firstWrong charge slots) 0) (stepped slots requests) (refusedTick charge slots (firstWrong charge slots)))
 
-  -- A list of ticks, the first on the given record and each later one on the record that the tick before handed back.
-  abbrev pub ticked : List Slot → List (List ℕ) → List TickAnswer
-  ticked slots [] = []
-  ticked slots (requests ∷ rest) = tick slots requests ∷ ticked (tick slots requests .slots) rest
+-- A list of ticks, the first on the given record and each later one on the record that the tick before handed back.
+abbrev pub ticked : ℕ → List Slot → List (List ℕ) → List TickAnswer
+ticked charge slots [] = []
+ticked charge slots (requests ∷ rest) =
+    tick charge slots requests ∷ ticked (tick charge slots requests .charge) (tick charge slots requests .slots) rest

@@ -21,7 +21,7 @@ use Rattle.taskset.specs.declared.Reading.{Reading}
 use Rattle.stored.specs.Form.{taskCount, fieldsOf}
 use Rattle.stored.specs.Tests.{tableOutcome, readingOf}
 use Rattle.stored.specs.Limits.{Valid}
-use Rattle.stored.proofs.TableLaws.{table-tested, read-outcome}
+use Rattle.stored.proofs.TableLaws.{table-tested-alone, read-outcome}
 use Rattle.planner.specs.Plan.{allocationOf, planFor, planOf, verdictOutcome}
 use Rattle.planner.proofs.PlanLaws.{fields-are, plan-accepted}
 use Rattle.planner.proofs.PromiseLaws.{plan-decides, plan-promised}
@@ -33,15 +33,15 @@ use Rattle.firmware.specs.Service.{ValidCall, callConditions, Answers, K
 
 -- Numbers 1 to 7, then 8, decide.
 module _ (s : List ℕ) (room : ℕ) where
-  call-tested : Tested (Valid s × (taskCount s ≤ room)) (callConditions s room) (callOutcome s room)
+  call-tested : Tested (Valid s 0 × (taskCount s ≤ room)) (callConditions s room) (callOutcome s room)
   unfolding callOutcome
   call-tested =
-      join (table-tested s) (record {
+      join (table-tested-alone s) (record {
         reports = test-only Buffer refl (less-exactly room (taskCount s));
         valid = (λ n. not-less _ _ (n .0), λ h. (λ g. omega arith, tt));
       })
 
-  call-accepts : (callOutcome s room ≡ outcome.Accepted) ↔ (Valid s × (taskCount s ≤ room))
+  call-accepts : (callOutcome s room ≡ outcome.Accepted) ↔ (Valid s 0 × (taskCount s ≤ room))
   call-accepts = accepts (decides call-tested)
 
 -- a verdict that is no refusal has a code of at most 2: 2 for spent, and else 0 for all
@@ -81,19 +81,19 @@ Promises s limit buffer code after =
 pub read-well : (a b : Outcome) {o : Outcome} → o ≡ a then b → o ≡ outcome.Accepted → a ≡ outcome.Accepted
 read-well a b p q = then-accepted a b (sym p ∙ q) .0
 
-module _ (s : List ℕ) (room : ℕ) {g : Reading} (e : g ≡ readingOf s) {fits : Outcome} (f : fits ≡ bufferTest (g .tasks .fields .n) room)
+module _ (s : List ℕ) (room : ℕ) {g : Reading} (e : g ≡ readingOf s 0) {fits : Outcome} (f : fits ≡ bufferTest (g .tasks .fields .n) room)
     {o : Outcome} (p : o ≡ g .outcome then fits) where
   count-is : g .outcome ≡ outcome.Accepted → g .tasks .fields .n ≡ taskCount s
   unfolding fieldsOf
-  count-is q = ap (λ f. f .n) (fields-are s e q)
+  count-is q = ap (λ f. f .n) (fields-are s 0 e q)
 
   pub outcome-is : o ≡ callOutcome s room
   unfolding callOutcome
   outcome-is =
       ⊎-elim
-      (λ q. rw (← read-outcome s e, ← count-is q, ← f) p)
+      (λ q. rw (← read-outcome s 0 e, ← count-is q, ← f) p)
       (λ q. p ∙ then-refused (g .outcome) fits (q .0) (q .1)
-      ∙ sym (then-refused (tableOutcome s) (bufferTest (taskCount s) room) (q .0) (sym (read-outcome s e) ∙ q .1)))
+      ∙ sym (then-refused (tableOutcome s 0) (bufferTest (taskCount s) room) (q .0) (sym (read-outcome s 0 e) ∙ q .1)))
       (outcome-cases (g .outcome))
 
   -- what an accepted call is given
@@ -108,7 +108,7 @@ module _ (s : List ℕ) (room : ℕ) {g : Reading} (e : g ≡ readingOf s) {fits
     pub call-room : g .tasks .fields .n ≤ room
     call-room = rw (count-is (read-well _ _ p q)) (call-valid .fits)
 
-module _ (s : List ℕ) (limit : ℕ) (buffer : List ℕ) {g : Reading} (e : g ≡ readingOf s) {fits : Outcome}
+module _ (s : List ℕ) (limit : ℕ) (buffer : List ℕ) {g : Reading} (e : g ≡ readingOf s 0) {fits : Outcome}
     (f : fits ≡ bufferTest (g .tasks .fields .n) (length buffer)) {o : Outcome} (p : o ≡ g .outcome then fits) where
   same : o ≡ callOutcome s (length buffer)
   same = outcome-is s (length buffer) e f p
@@ -136,11 +136,11 @@ module _ (s : List ℕ) (limit : ℕ) (buffer : List ℕ) {g : Reading} (e : g �
     n-is : g .tasks .fields .n ≡ taskCount s
     n-is = count-is s (length buffer) e f p (read-well _ _ p q)
 
-    plan-is : r ≡ planOf s limit
-    plan-is = plan-accepted s e limit (read-well _ _ p q) w
+    plan-is : r ≡ planOf s 0 limit
+    plan-is = plan-accepted s 0 e limit (read-well _ _ p q) w
 
     small : code ≤ 2
-    small = rw h (code-planned (r .verdict) (accepts (plan-decides s limit plan-is) .1 (valid .table)))
+    small = rw h (code-planned (r .verdict) (accepts (plan-decides s 0 limit plan-is) .1 (valid .table)))
 
     after-is : after ≡ take (taskCount s) (r .placement) ++ drop (taskCount s) buffer
     after-is = rw (← n-is) t
@@ -151,7 +151,7 @@ module _ (s : List ℕ) (limit : ℕ) (buffer : List ℕ) {g : Reading} (e : g �
     kept : Keeps s buffer limit code after
     unfolding fieldsOf
     kept =
-        let k = plan-promised s limit plan-is .promise (valid .table) in
+        let k = plan-promised s 0 limit plan-is .promise (valid .table) in
         record {
           spent = (λ x. k .spent .0 (code-spent (r .verdict) (sym h ∙ x)), λ x. h ∙ ap codeOf (k .spent .1 x));
           all = λ n.
@@ -186,7 +186,7 @@ call-answers s buffer limit =
     (λ q. let w = call-planned s limit buffer refl refl refl q refl (length-row 0 _ _) refl refl in
     rw (← w .0, ← w .1 .0) (w .1 .1 .0))
     (λ q. let w = call-refused s limit buffer refl refl refl (q .1) refl in rw (← w .0, ← w .1 .0) (w .1 .1 .0))
-    (outcome-cases (readingOf s .outcome then bufferTest (readingOf s .tasks .fields .n) (length buffer)))
+    (outcome-cases (readingOf s 0 .outcome then bufferTest (readingOf s 0 .tasks .fields .n) (length buffer)))
 
 -- A call whose code is a refusal's leaves its buffer as it was.
 pub refusal-writes-nothing : (s buffer : List ℕ) (limit : ℕ) → 100 ≤ codeFor s limit (length buffer) → bufferAfter s limit buffer ≡ buffer

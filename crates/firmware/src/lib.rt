@@ -49,7 +49,7 @@ pub extern "C" fn millplan_plan(table: &[u8], limit: u32, plan: &mut [u8]) -> u3
     ensures answers { λ r. ⌜ Answers (now (table .entry)) (now (plan .entry)) r (now (plan .exit)) ⌝ }
     ensures keeps { λ r. ⌜ (r ≤ 2 → Keeps (now (table .entry)) (now (plan .entry)) limit r (now (plan .exit))) ⌝ }
 {
-    let reading = stored::read_table(table);
+    let reading = stored::read_charged(table, 0);
     let tasks = reading.tasks;
     let n = tasks.fields.n;
     let read = reading.outcome;

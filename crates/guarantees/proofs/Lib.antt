@@ -1,4 +1,5 @@
 pub mod LoadLaws
 pub mod DemandLaws
 pub mod ChainLaws
+pub mod UnchargedLaws
 pub mod RowLaws

@@ -10,7 +10,7 @@ use Rattle.numbers.specs.Sums.{sumOver, sumTo, productTo}
 use Rattle.refusal.specs.Tests.{_then_, refuseIf, refuseAt, inOrder}
 use Rattle.wire.specs.Bytes.{wordAt}
 use Rattle.taskset.specs.Demands.{multipleTo, hyperperiodOf, demandOf}
-use Rattle.taskset.specs.Tests.{badPeriod, badBudget, exceeds}
+use Rattle.taskset.specs.Tests.{badPeriod, badBudget, badCost, exceeds}
 use Rattle.taskset.specs.Reading.{taskSetOf, acceptedReading, readingBy}
 use Rattle.stored.specs.Form.{fieldsOf}
 use Rattle.stored.specs.Tests.{tableOutcome, readingOf}
@@ -32,8 +32,8 @@ use Rattle.listing.specs.Lines.{refusalLine, sizesLine, taskLine, taskLines, ta
 use Rattle.listing.specs.Printed.{printed}
 use Rattle.report.specs.Output.{verdictWord, summaryLine, planLines, outputOf}
 use Rattle.quickreport.specs.Output.{quickSummary, quickLines, quickOutputOf}
-use Rattle.guarantees.specs.Rows.{emptyCores, quicks, more, rows, AllHold}
+use Rattle.guarantees.specs.Rows.{charges, emptyCores, quicks, more, rows, AllHold}
 
 pub rows-hold : AllHold rows
-unfolding rows more quicks emptyCores first firstFrom row tab upTo sumOver sumTo productTo euclid gcd lcm lcms insert sorted position scatter demandOn _then_ refuseIf refuseAt inOrder wordAt fieldsOf multipleTo hyperperiodOf demandOf badPeriod badBudget exceeds tableOutcome taskSetOf acceptedReading readingBy readingOf precedes isEmpty someEmpty tried upFrom choices stepInto storedAfter boundAfter entered tryAll visit trace stored answer tableAnswer tableProblem orderOf verdictOf allocationOf planFor refusedPlan planBy planOf verdictOutcome slotTest firstSlot owedFor release releaseAll chosen advanceAll stepped refusedTick tick freshSlot freshSlots loadOf aboveAt refusedStart startBy placingOutcome startOutcome startOf front digitsBy decimal field refusalLine sizesLine taskLine taskLines tableLines verdictWord summaryLine planLines printed outputOf lowestFit fitFrom firstFit tableFit quickPlacement quickFor refusedQuick quickBy quickOf stepCeiling ceilingBy ceilingOf quickSummary quickLines quickOutputOf
-rows-hold = (refl, (refl, (refl, (refl, (refl, (refl, (refl, (refl, (refl, (refl, ((refl, refl), (refl, (refl, (refl, (refl, (refl, (refl, (refl, (refl, (refl, (refl, (refl, (refl, (refl, (refl, (refl, (refl, (refl, (refl, (refl, (refl, (refl, (refl, (refl, (refl, (refl, (refl, (refl, (refl, (refl, (refl, (refl, (refl, (refl, (refl, (refl, (refl, tt)))))))))))))))))))))))))))))))))))))))))))))))
+unfolding rows more quicks emptyCores charges first firstFrom row tab upTo sumOver sumTo productTo euclid gcd lcm lcms insert sorted position scatter demandOn _then_ refuseIf refuseAt inOrder wordAt fieldsOf multipleTo hyperperiodOf demandOf badPeriod badBudget badCost exceeds tableOutcome taskSetOf acceptedReading readingBy readingOf precedes isEmpty someEmpty tried upFrom choices stepInto storedAfter boundAfter entered tryAll visit trace stored answer tableAnswer tableProblem orderOf verdictOf allocationOf planFor refusedPlan planBy planOf verdictOutcome slotTest firstSlot owedFor release releaseAll chosen advanceAll stepped refusedTick tick freshSlot freshSlots loadOf aboveAt refusedStart startBy placingOutcome startOutcome startOf front digitsBy decimal field refusalLine sizesLine taskLine taskLines tableLines verdictWord summaryLine planLines printed outputOf lowestFit fitFrom firstFit tableFit quickPlacement quickFor refusedQuick quickBy quickOf stepCeiling ceilingBy ceilingOf quickSummary quickLines quickOutputOf
+rows-hold = (refl, (refl, (refl, (refl, (refl, (refl, (refl, (refl, (refl, (refl, ((refl, refl), (refl, (refl, (refl, (refl, (refl, (refl, (refl, (refl, (refl, (refl, (refl, (refl, (refl, (refl, (refl, (refl, (refl, (refl, (refl, (refl, (refl, (refl, (refl, (refl, (refl, (refl, (refl, (refl, (refl, (refl, (refl, (refl, (refl, (refl, (refl, (refl, (refl, (refl, ((refl, refl), (refl, (refl, (refl, (refl, (refl, (refl, (refl, (refl, ((refl, refl), ((refl, refl), ((refl, refl), ((refl, refl), ((refl, refl), ((refl, refl), (refl, (refl, tt))))))))))))))))))))))))))))))))))))))))))))))))))))))))))))))))))

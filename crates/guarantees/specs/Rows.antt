@@ -1,5 +1,5 @@
 -- The paper's worked rows, and rows that each fix what no other does, as one list and one statement that goes down it.
-use Prim.Native.Nat.{ℕ}
+use Prim.Native.Nat.{ℕ, _-_}
 use Prim.Native.String.{String}
 use mathlib.Core.Path.{_≡_}
 use mathlib.Core.List.{List, [], _∷_, _++_}
@@ -24,35 +24,49 @@ use Rattle.text.specs.Ascii.{ascii}
 use Rattle.report.specs.Output.{outputOf}
 
 -- A row: a table's hyperperiod; a plan with its verdict, cores, left-out demand and steps; a quick plan with its cores and left-out demand;
--- a step ceiling; a refusal with its number and place; the tasks run by the ticks of a fresh core; one tick of a given record, with the task run, the
--- late task and the next record; the whole output of the program, and that of the quick one.
+-- a step ceiling; a refusal with its number and place; a fresh core's slots, or its refusal; the tasks run by the ticks of a fresh core; one tick of
+-- given slots, with the task run, the late task and the next slots, or its refusal's place; the whole output of the program, and that of the quick
+-- one. Last, a row of these on a board with a charge.
 pub data Row : Type 0 where
   frames : List ℕ → ℕ → Row
   plans : List ℕ → ℕ → Verdict → List ℕ → ℕ → ℕ → Row
   quick : List ℕ → List ℕ → ℕ → Row
   ceilings : List ℕ → ℕ → Row
   refuses : List ℕ → ℕ → ℕ → ℕ → Row
+  starts : List ℕ → List ℕ → ℕ → List Slot → Row
+  refusesCore : List ℕ → List ℕ → ℕ → ℕ → ℕ → Row
   ticks : List ℕ → List ℕ → ℕ → List (List ℕ) → List ℕ → Row
   tickOnce : List Slot → List ℕ → ℕ → ℕ → List Slot → Row
+  refusesTick : List Slot → ℕ → Row
   prints : List ℕ → String → Row
   printsQuick : List ℕ → String → Row
+  charged : ℕ → Row → Row
 
-abbrev pub Holds : Row → Type 0
-Holds (frames bytes hyperperiod) = readingOf bytes .tasks .hyperperiod ≡ hyperperiod
-Holds (plans bytes limit verdict cores rejected steps) =
-    planOf bytes limit ≡ record { verdict = verdict; placement = row 0 (length cores) (entry cores); rejected = rejected; steps = steps }
-Holds (quick bytes cores rejected) = quickOf bytes ≡ record { outcome = Accepted; placement = row 0 (length cores) (entry cores); rejected = rejected }
-Holds (ceilings bytes ceiling) = ceilingOf bytes ≡ record { outcome = Accepted; ceiling = ceiling }
-Holds (refuses bytes limit number place) = Gives (verdictOutcome (planOf bytes limit .verdict)) number place
-Holds (ticks bytes placement core requests ran) = runs (ticked 0 (startOf bytes placement core .core .slots) requests) ≡ ran
-Holds (tickOnce slots requests run late next) = tick 0 slots requests ≡ record { refusal = 0; place = 0; slots = next; run = run; late = late }
-Holds (prints bytes output) = outputOf bytes ≡ ascii output
-Holds (printsQuick bytes output) = quickOutputOf bytes ≡ ascii output
+-- what a row says where this is the board's charge; the programs go by charge 0
+abbrev pub Holds : ℕ → Row → Type 0
+Holds charge (frames bytes hyperperiod) = readingOf bytes charge .tasks .hyperperiod ≡ hyperperiod
+Holds charge (plans bytes limit verdict cores rejected steps) =
+    planOf bytes charge limit ≡ record { verdict = verdict; placement = row 0 (length cores) (entry cores); rejected = rejected; steps = steps }
+Holds charge (quick bytes cores rejected) =
+    quickOf bytes charge ≡ record { outcome = Accepted; placement = row 0 (length cores) (entry cores); rejected = rejected }
+Holds charge (ceilings bytes ceiling) = ceilingOf bytes charge ≡ record { outcome = Accepted; ceiling = ceiling }
+Holds charge (refuses bytes limit number place) = Gives (verdictOutcome (planOf bytes charge limit .verdict)) number place
+Holds charge (starts bytes placement core slots) =
+    startOf bytes charge placement core ≡ record { outcome = Accepted; core = record { slots = slots; charge = charge } }
+Holds charge (refusesCore bytes placement core number place) = Gives (startOf bytes charge placement core .outcome) number place
+Holds charge (ticks bytes placement core requests ran) =
+    runs (ticked (startOf bytes charge placement core .core .charge) (startOf bytes charge placement core .core .slots) requests) ≡ ran
+Holds charge (tickOnce slots requests run late next) =
+    tick charge slots requests ≡ record { refusal = 0; place = 0; charge = charge; slots = next; run = run; late = late }
+Holds charge (refusesTick slots place) = tick charge slots [] ≡ record { refusal = 12; place = place; charge = charge; slots = slots; run = 0; late = 0 }
+Holds charge (prints bytes output) = outputOf bytes ≡ ascii output
+Holds charge (printsQuick bytes output) = quickOutputOf bytes ≡ ascii output
+Holds charge (charged own row) = Holds own row
 
--- every row of a list holds
+-- every row of a list holds; where a row names no charge, it is 0
 abbrev pub AllHold : List Row → Type 0
 AllHold [] = Unit {0}
-AllHold (r ∷ rs) = Holds r × AllHold rs
+AllHold (r ∷ rs) = Holds 0 r × AllHold rs
 
 -- the table of the listing, and that of row c
 abbrev pub listing : List ℕ
@@ -61,7 +75,10 @@ listing = tableOf 1 (10 ∷ 10 ∷ 10 ∷ []) (7 ∷ 6 ∷ 4 ∷ [])
 abbrev pub rowC : List ℕ
 rowC = tableOf 1 (2 ∷ 3 ∷ 6 ∷ []) (1 ∷ 1 ∷ 1 ∷ [])
 
--- that of row d, and one whose six tasks fill its two cores
+-- those of rows a and d, and one whose six tasks fill its two cores
+abbrev pub rowA : List ℕ
+rowA = tableOf 1 (10 ∷ 10 ∷ []) (3 ∷ 7 ∷ [])
+
 abbrev pub rowD : List ℕ
 rowD = tableOf 2 (10 ∷ 10 ∷ 10 ∷ 10 ∷ 10 ∷ []) (5 ∷ 5 ∷ 4 ∷ 3 ∷ 3 ∷ [])
 
@@ -79,6 +96,10 @@ five = tableOf 4 (10 ∷ 10 ∷ 10 ∷ 10 ∷ 10 ∷ []) (6 ∷ 6 ∷ 6 ∷ 6 �
 abbrev pub seven : List ℕ
 seven = tableOf 3 (10 ∷ 10 ∷ 10 ∷ 10 ∷ 10 ∷ 10 ∷ 10 ∷ []) (9 ∷ 8 ∷ 6 ∷ 6 ∷ 5 ∷ 4 ∷ 3 ∷ [])
 
+-- two tasks that no core holds together, of weights 50 and 55 of 100; with charge 1 they are 60 and 56
+abbrev pub swapped : List ℕ
+swapped = tableOf 2 (10 ∷ 100 ∷ []) (5 ∷ 55 ∷ [])
+
 -- sixteen requests: full ones, and the same with none from task 1
 abbrev pub full : List ℕ
 full = replicate 16 4294967295
@@ -91,7 +112,36 @@ abbrev pub slot : ℕ → ℕ → ℕ → ℕ → Slot
 slot period budget until remaining = record { period = period; budget = budget; until = until; remaining = remaining }
 
 abbrev pub front : List Slot → List Slot
-front slots = slots ++ replicate 13 emptySlot
+front slots = slots ++ replicate (16 - length slots) emptySlot
+
+-- Switch charges. Row a's table, which is full, is short with a charge, and its core is refused. A charge of 1 reorders two tasks, in the exact plan
+-- and the quick one. A charge of 9 fills a core alone, and an empty core's record carries it. A task of period 5 and time 2 asks for nothing, for one
+-- tick and for more than it may: with charge 1 it has 0, 2 and 3. A late slot owes its budget and the charge, the other is counted down.
+-- The charge is refused after the length and before a period, a time plus charge after a time and before the hyperperiod; a record's charge before
+-- any slot.
+unfoldable pub charges : List Row
+charges =
+    charged 1 (plans rowA 1000000 Short (0 ∷ 1 ∷ []) 4 2)
+    ∷ charged 1 (plans rowA 1 Spent (0 ∷ 0 ∷ []) 12 1)
+    ∷ charged 1 (refusesCore rowA (1 ∷ 1 ∷ []) 1 11 0)
+    ∷ plans swapped 1000000 All (2 ∷ 1 ∷ []) 0 2
+    ∷ charged 1 (plans swapped 1000000 All (1 ∷ 2 ∷ []) 0 2)
+    ∷ charged 1 (quick swapped (1 ∷ 2 ∷ []) 0)
+    ∷ charged 9 (plans (tableOf 1 (10 ∷ []) (1 ∷ [])) 1000000 All (1 ∷ []) 0 1)
+    ∷ charged 9 (starts (tableOf 2 (10 ∷ []) (1 ∷ [])) (1 ∷ []) 2 (front []))
+    ∷ charged 9 (ceilings (tableOf 2 (10 ∷ []) (1 ∷ [])) 2)
+    ∷ charged 1 (ticks (tableOf 1 (5 ∷ []) (2 ∷ [])) (1 ∷ []) 1 (replicate 5 (replicate 16 0) ++ replicate 5 (replicate 16 1) ++ replicate 5 full)
+    (0 ∷ 0 ∷ 0 ∷ 0 ∷ 0 ∷ 1 ∷ 1 ∷ 0 ∷ 0 ∷ 0 ∷ 1 ∷ 1 ∷ 1 ∷ 0 ∷ 0 ∷ []))
+    ∷ charged 2 (tickOnce (front (slot 9 3 0 5 ∷ slot 9 3 4 0 ∷ [])) full 1 1 (front (slot 9 3 8 4 ∷ slot 9 3 3 0 ∷ [])))
+    ∷ charged 10 (refuses (1 ∷ 1 ∷ []) 1000000 4 0)
+    ∷ charged 10 (refuses (tableOf 1 (0 ∷ []) (1 ∷ [])) 1000000 13 0)
+    ∷ charged 4294967295 (refuses rowA 1000000 13 0)
+    ∷ charged 4 (refuses (tableOf 1 (10 ∷ 10 ∷ []) (7 ∷ 0 ∷ [])) 1000000 6 2)
+    ∷ charged 4 (refuses rowA 1000000 14 2)
+    ∷ charged 1 (refuses (tableOf 1 (1000 ∷ 1001 ∷ []) (1 ∷ 1001 ∷ [])) 1000000 14 2)
+    ∷ charged 10 (refusesTick (front (slot 0 1 0 0 ∷ [])) 0)
+    ∷ charged 9 (refusesTick (front (slot 12 3 0 12 ∷ slot 12 4 0 0 ∷ [])) 2)
+    ∷ []
 
 -- Empty cores. Five tasks of which no two fit together, on four cores: 5 steps, where 65 are made if each empty core is tried. Seven
 -- tasks on three cores: 24 steps (110), of which the 20th stores a better placement; then one step less, and the steps that are enough.
@@ -108,7 +158,7 @@ emptyCores =
     ∷ ceilings listing 14
     ∷ ceilings rowD 242
     ∷ ceilings (tableOf 4 (replicate 16 10) (replicate 16 1)) 36621093752
-    ∷ []
+    ∷ charges
 
 -- Quick plans. Row d's table, where first fit places all; six tasks that fill two cores, where first fit leaves out the last and the exact
 -- plan nothing; two that fill a core exactly; the listing, where first fit leaves out more than the exact plan; the request's order, by which
@@ -159,7 +209,7 @@ more =
 -- rows a to i and k; where the paper gives no limit it is 1,000,000
 unfoldable pub rows : List Row
 rows =
-    plans (tableOf 1 (10 ∷ 10 ∷ []) (3 ∷ 7 ∷ [])) 1000000 All (1 ∷ 1 ∷ []) 0 2
+    plans rowA 1000000 All (1 ∷ 1 ∷ []) 0 2
     ∷ plans (tableOf 1 (10 ∷ 10 ∷ []) (3 ∷ 8 ∷ [])) 1000000 Short (0 ∷ 1 ∷ []) 3 2
     ∷ frames rowC 6
     ∷ plans rowC 1000000 All (1 ∷ 1 ∷ 1 ∷ []) 0 3

@@ -1,4 +1,4 @@
--- What a program prints of a call on the bytes of a table.
+-- What a program prints of a call on the bytes of a table. Programs go by charge 0.
 use Prim.Native.Nat.{ℕ, _≤_}
 use mathlib.Core.Path.{_≡_}
 use mathlib.Core.List.{List}
@@ -6,7 +6,7 @@ use Rattle.refusal.specs.Causes.{numberOf, placeOf}
 use Rattle.refusal.specs.Conditions.{First}
 use Rattle.refusal.specs.declared.Outcome.{Outcome}
 use Rattle.refusal.specs.declared.Outcome.the-variants.{Accepted, Refused}
-use Rattle.stored.specs.Limits.{Valid, conditions}
+use Rattle.stored.specs.Limits.{Valid, tableConditions}
 use Rattle.listing.specs.Lines.{refusalLine}
 
 -- the lines of the answer, or the line of a refusal alone
@@ -16,6 +16,6 @@ printed Accepted lines = lines
 
 -- The output in the table's terms, where these are the lines of a valid one.
 pub record Printed (s lines output : List ℕ) : Type 0 where
-  pub planned : Valid s → output ≡ lines
+  pub planned : Valid s 0 → output ≡ lines
   -- A refused table's output is one line: `refused`, number and place of the first condition that holds.
-  pub refused : (number place : ℕ) → 1 ≤ number → First (conditions s) number place → output ≡ refusalLine number place
+  pub refused : (number place : ℕ) → 1 ≤ number → First (tableConditions s) number place → output ≡ refusalLine number place

@@ -128,16 +128,16 @@ verdict-short b (suc x) e q = rw e
 
 -- ---- from the reader's answer to the plan
 
-module _ (s : List ℕ) {g : Reading} (e : g ≡ readingOf s) where
-  pub plan-refused : (limit : ℕ) {c : Cause} {r : Allocation} → r ≡ refusedPlan c → g .outcome ≡ outcome.Refused c → r ≡ planOf s limit
+module _ (s : List ℕ) (charge : ℕ) {g : Reading} (e : g ≡ readingOf s charge) where
+  pub plan-refused : (limit : ℕ) {c : Cause} {r : Allocation} → r ≡ refusedPlan c → g .outcome ≡ outcome.Refused c → r ≡ planOf s charge limit
   unfolding planOf planBy
-  plan-refused limit w q = rw (← read-outcome s e, q) w
+  plan-refused limit w q = rw (← read-outcome s charge e, q) w
 
   -- the fields of an accepted reading
-  pub fields-are : g .outcome ≡ outcome.Accepted → g .tasks .fields ≡ fieldsOf s
+  pub fields-are : g .outcome ≡ outcome.Accepted → g .tasks .fields ≡ fieldsOf s charge
   unfolding taskSetOf
-  fields-are q = ap (λ x. x .fields) (read-tasks s e q)
+  fields-are q = ap (λ x. x .fields) (read-tasks s charge e q)
 
-  pub plan-accepted : (limit : ℕ) {r : Allocation} → g .outcome ≡ outcome.Accepted → r ≡ planFor (g .tasks .fields) limit → r ≡ planOf s limit
+  pub plan-accepted : (limit : ℕ) {r : Allocation} → g .outcome ≡ outcome.Accepted → r ≡ planFor (g .tasks .fields) limit → r ≡ planOf s charge limit
   unfolding planOf planBy
-  plan-accepted limit q w = rw (← read-outcome s e, q) (w ∙ ap (λ f. planFor f limit) (fields-are q))
+  plan-accepted limit q w = rw (← read-outcome s charge e, q) (w ∙ ap (λ f. planFor f limit) (fields-are q))

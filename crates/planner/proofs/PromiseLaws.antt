@@ -19,7 +19,7 @@ use Rattle.refusal.specs.declared.Outcome.the-variants as outcome
 use Rattle.taskset.specs.Demands.{demandOf}
 use Rattle.taskset.specs.Limits.{Within}
 use Rattle.taskset.specs.Reading.{taskSetOf}
-use Rattle.taskset.proofs.DemandLaws.{demand-range}
+use Rattle.taskset.proofs.DemandLaws.{hyperperiod-is, demand-exact, demand-range}
 use Rattle.stored.specs.Form.{fieldsOf}
 use Rattle.stored.specs.Tests.{tableOutcome}
 use Rattle.stored.specs.Limits.{Valid, conditions}
@@ -37,7 +37,7 @@ use Rattle.allocation.proofs.EntryRule.{entry-rule}
 use Rattle.allocation.proofs.Guarantee.{guaranteed}
 use Rattle.planner.specs.Problem.{tableProblem, orderOf}
 use Rattle.planner.specs.Plan.{verdictOf, allocationOf, planFor, refusedPlan, planBy, planOf, verdictOutcome}
-use Rattle.planner.specs.Promise.{walkOf, choicesOf, Safe, StatedOrder, Promise, WalkRule, RefusedPlan, Plans}
+use Rattle.planner.specs.Promise.{walkOf, choicesOf, ExactDemands, Safe, StatedOrder, Promise, WalkRule, RefusedPlan, Plans}
 use Rattle.planner.specs.declared.Allocation.{Allocation}
 use Rattle.planner.specs.declared.Verdict.the-variants.{All, Short, Spent}
 
@@ -93,11 +93,16 @@ module _ (f : Fields) (w : Within f) where
   pub order-permutation : Permutation (length (tableProblem f .demands)) (orderOf f)
   order-permutation = rw demands-long (stated-order .1)
 
-  positive : (k : ℕ) → k < length (tableProblem f .demands) → 1 ≤ getD (tableProblem f .demands) k 0
+  exact-demands : ExactDemands f
   unfolding tableProblem
-  positive k h =
-      let b : k < f .n = rw demands-long at h in
-      rw (getD-tab 0 (f .n) (demandOf f) k b) (demand-range w b .0)
+  exact-demands = record {
+    hyperperiod = hyperperiod-is w;
+    demand = λ k h. rw (getD-tab 0 (f .n) (demandOf f) k h) (demand-exact w h);
+    range = λ k h. rw (getD-tab 0 (f .n) (demandOf f) k h) (demand-range w h);
+  }
+
+  positive : (k : ℕ) → k < length (tableProblem f .demands) → 1 ≤ getD (tableProblem f .demands) k 0
+  positive k h = exact-demands .range k (rw demands-long at h) .0
 
   walk-rule : WalkRule f
   walk-rule = entry-rule (inPlanningOrder (tableProblem f) (orderOf f))
@@ -115,6 +120,7 @@ module _ (f : Fields) (w : Within f) where
     pub row-safe : Safe f (row 0 (f .n) (entry p)) (rejected (tableProblem f) p)
     unfolding tableProblem
     row-safe = record {
+      exact = exact-demands;
       loads = λ core h l. rw row-choices (g .fits core h l);
       feasible = rw row-choices g;
       beyond = λ k h. row-beyond 0 (f .n) (entry p) k h;
@@ -203,9 +209,9 @@ unfolding planBy refusedPlan verdictOutcome planFor allocationOf
 answer-outcome outcome.Accepted f limit = outcome-planned _ _
 answer-outcome (outcome.Refused c) f limit = refl
 
-pub plan-outcome : (s : List ℕ) (limit : ℕ) → verdictOutcome (planOf s limit .verdict) ≡ tableOutcome s
+pub plan-outcome : (s : List ℕ) (charge limit : ℕ) → verdictOutcome (planOf s charge limit .verdict) ≡ tableOutcome s charge
 unfolding planOf
-plan-outcome s limit = answer-outcome (tableOutcome s) (fieldsOf s) limit
+plan-outcome s charge limit = answer-outcome (tableOutcome s charge) (fieldsOf s charge) limit
 
 -- a refused plan is zeros
 by-refused : (o : Outcome) (f : Fields) (limit : ℕ) → numberIn o ≢ 0 → RefusedPlan (planBy o f limit)
@@ -214,16 +220,16 @@ by-refused outcome.Accepted f limit n = absurd (n refl)
 by-refused (outcome.Refused c) f limit n = record { placement = refl; rejected = refl; steps = refl }
 
 -- what is promised of an answer that equals the definition
-module _ (s : List ℕ) (limit : ℕ) {r : Allocation} (e : r ≡ planOf s limit) where
-  pub plan-decides : Decides (Valid s) (conditions s) (verdictOutcome (r .verdict))
-  plan-decides = rw (e, plan-outcome s limit) (decides (table-tested s))
+module _ (s : List ℕ) (charge limit : ℕ) {r : Allocation} (e : r ≡ planOf s charge limit) where
+  pub plan-decides : Decides (Valid s charge) (conditions s charge) (verdictOutcome (r .verdict))
+  plan-decides = rw (e, plan-outcome s charge limit) (decides (table-tested s charge))
 
-  pub plan-promised : Plans s limit r
+  pub plan-promised : Plans s charge limit r
   unfolding planOf planBy
   plan-promised = record {
     promise = λ v.
-        let o : tableOutcome s ≡ outcome.Accepted = accepts (decides (table-tested s)) .1 v in
-        rw (e, o) (promised (fieldsOf s) (v .fields) limit);
-    walks = λ v. walk-rule (fieldsOf s) (v .fields);
-    refused = λ n. rw e (by-refused (tableOutcome s) (fieldsOf s) limit (rw (e, plan-outcome s limit) at n));
+        let o : tableOutcome s charge ≡ outcome.Accepted = accepts (decides (table-tested s charge)) .1 v in
+        rw (e, o) (promised (fieldsOf s charge) (v .fields) limit);
+    walks = λ v. walk-rule (fieldsOf s charge) (v .fields);
+    refused = λ n. rw e (by-refused (tableOutcome s charge) (fieldsOf s charge) limit (rw (e, plan-outcome s charge limit) at n));
   }

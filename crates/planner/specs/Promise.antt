@@ -1,13 +1,15 @@
 -- Demand 2, sentence by sentence, of the plan for fields within the limits, in the table's terms; and what a refused plan is.
-use Prim.Native.Nat.{ℕ, _≤_, _<_}
+use Prim.Native.Nat.{ℕ, _+_, _*_, _≤_, _<_}
 use mathlib.Core.Path.{_≡_}
 use mathlib.Core.List.{List}
 use mathlib.Core.Logic.{_⊎_, _↔_, _≢_}
 use lib.ListN.{length, take, replicate}
+use Rattle.numbers.specs.Multiples.{IsLcm}
 use Rattle.numbers.specs.Reorder.{scatter}
 use Rattle.numbers.specs.Rows.{entry}
 use Rattle.numbers.specs.Sorting.{Permutation}
 use Rattle.refusal.specs.Causes.{numberIn}
+use Rattle.taskset.specs.Fields.{periodAt, budgetAt}
 use Rattle.taskset.specs.Demands.{hyperperiodOf}
 use Rattle.taskset.specs.declared.Fields.{Fields}
 use Rattle.planning.specs.Order.{InOrder}
@@ -30,8 +32,17 @@ walkOf f = trace (inPlanningOrder (tableProblem f) (orderOf f))
 abbrev pub choicesOf : Fields → List ℕ → List ℕ
 choicesOf f row = take (f .n) row
 
+-- The demands and the hyperperiod that every plan goes by are exact: the hyperperiod is the least common multiple of the periods, and a
+-- demand times its period is the budget plus the charge, times the hyperperiod. None is 0 or above the hyperperiod.
+pub record ExactDemands (f : Fields) : Type 0 where
+  pub hyperperiod : IsLcm (periodAt f) (f .n) (tableProblem f .capacity)
+  pub demand : (k : ℕ) → k < f .n → entry (tableProblem f .demands) k * periodAt f k ≡ (budgetAt f k + f .charge) * tableProblem f .capacity
+  pub range : (k : ℕ) → k < f .n → (1 ≤ entry (tableProblem f .demands) k) × (entry (tableProblem f .demands) k ≤ tableProblem f .capacity)
+
 -- What is promised of every plan: of its placement, a row of sixteen, and of the demand that it is said to reject.
 pub record Safe (f : Fields) (row : List ℕ) (out : ℕ) : Type 0 where
+  -- The weights are exact, and count the charge.
+  pub exact : ExactDemands f
   -- No plan puts an exact load above one on any core,
   pub loads : (core : ℕ) → 1 ≤ core → core ≤ f .m → load (tableProblem f) core (choicesOf f row) ≤ hyperperiodOf f
   -- and each task has a core of the table, or is left out; entries beyond n are 0.
@@ -75,9 +86,9 @@ pub record RefusedPlan (r : Allocation) : Type 0 where
   pub rejected : r .rejected ≡ 0
   pub steps : r .steps ≡ 0
 
--- What is promised of the answer for a table: a valid table's plan keeps demand 2, its walk enters choices by the paper's rule,
+-- What is promised of the answer for a table and a charge: a valid table's plan keeps demand 2, its walk enters choices by the paper's rule,
 -- and a refused plan is zeros.
-pub record Plans (table : List ℕ) (limit : ℕ) (r : Allocation) : Type 0 where
-  pub promise : Valid table → Promise (fieldsOf table) limit r
-  pub walks : Valid table → WalkRule (fieldsOf table)
+pub record Plans (table : List ℕ) (charge limit : ℕ) (r : Allocation) : Type 0 where
+  pub promise : Valid table charge → Promise (fieldsOf table charge) limit r
+  pub walks : Valid table charge → WalkRule (fieldsOf table charge)
   pub refused : numberIn (verdictOutcome (r .verdict)) ≢ 0 → RefusedPlan r

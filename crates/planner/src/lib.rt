@@ -87,13 +87,13 @@ pub fn plan_tasks(t: TaskSet, limit: u32) -> Allocation
     }
 }
 
-// Plans a stored table in at most `limit` steps.
-pub fn plan(table: &[u8], limit: u32) -> Allocation
-    ensures answer { λ r. ⌜ r ≡ planOf (now (table .entry)) limit ⌝ }
-    ensures decides { λ r. ⌜ Decides (Valid (now (table .entry))) (conditions (now (table .entry))) (verdictOutcome (r .verdict)) ⌝ }
-    ensures plans { λ r. ⌜ Plans (now (table .entry)) limit r ⌝ }
+// Plans a stored table, on a board with this charge, in at most `limit` steps.
+pub fn plan(table: &[u8], charge: u32, limit: u32) -> Allocation
+    ensures answer { λ r. ⌜ r ≡ planOf (now (table .entry)) charge limit ⌝ }
+    ensures decides { λ r. ⌜ Decides (Valid (now (table .entry)) charge) (conditions (now (table .entry)) charge) (verdictOutcome (r .verdict)) ⌝ }
+    ensures plans { λ r. ⌜ Plans (now (table .entry)) charge limit r ⌝ }
 {
-    let reading = stored::read_table(table);
+    let reading = stored::read_charged(table, charge);
     let outcome = reading.outcome;
     match outcome {
         Outcome::Refused(cause) => refused(cause),

@@ -86,57 +86,57 @@ quick-outcome outcome.Accepted f = refl
 quick-outcome (outcome.Refused c) f = refl
 
 -- what is promised whether or not the table is valid
-pub record Answered (s : List ℕ) (r : QuickPlan) : Type 0 where
-  pub exact : Agrees s r
-  pub no-less : NoLess s r
-  pub descent : Descent s r
+pub record Answered (s : List ℕ) (charge : ℕ) (r : QuickPlan) : Type 0 where
+  pub exact : Agrees s charge r
+  pub no-less : NoLess s charge r
+  pub descent : Descent s charge r
   pub refused : numberIn (r .outcome) ≢ 0 → RefusedQuick r
 
-answered : (s : List ℕ) (o : Outcome) → tableOutcome s ≡ o → Answered s (quickBy o (fieldsOf s))
+answered : (s : List ℕ) (charge : ℕ) (o : Outcome) → tableOutcome s charge ≡ o → Answered s charge (quickBy o (fieldsOf s charge))
 unfolding quickBy refusedQuick planOf planBy refusedPlan fieldsOf
-answered s (outcome.Refused c) e = record {
+answered s charge (outcome.Refused c) e = record {
   exact = λ z. absurd (omega (arith, number-range c, z));
   no-less = λ limit h. rw e zero-le;
   descent = record { placement = rw e; rejected = rw e; later = λ limit h. rw e zero-le };
   refused = λ n. record { placement = refl; rejected = refl };
 }
-answered s outcome.Accepted e =
-    let w : Within (fieldsOf s) = accepts (decides (table-tested s)) .0 e .fields in
+answered s charge outcome.Accepted e =
+    let w : Within (fieldsOf s charge) = accepts (decides (table-tested s charge)) .0 e .fields in
     record {
-      exact = λ z q limit h. rw e (exact-plan (fieldsOf s) w q limit h);
-      no-less = λ limit h. rw e (plan-no-less (fieldsOf s) w limit (rw e at h));
+      exact = λ z q limit h. rw e (exact-plan (fieldsOf s charge) w q limit h);
+      no-less = λ limit h. rw e (plan-no-less (fieldsOf s charge) w limit (rw e at h));
       descent = record {
-        placement = rw e (first-plan (fieldsOf s) w);
-        rejected = rw e (first-rejected (fieldsOf s) w);
-        later = λ limit h. rw e (later-plans (fieldsOf s) w limit h);
+        placement = rw e (first-plan (fieldsOf s charge) w);
+        rejected = rw e (first-rejected (fieldsOf s charge) w);
+        later = λ limit h. rw e (later-plans (fieldsOf s charge) w limit h);
       };
-      refused = λ n. absurd (n (ap numberIn (quick-outcome outcome.Accepted (fieldsOf s))));
+      refused = λ n. absurd (n (ap numberIn (quick-outcome outcome.Accepted (fieldsOf s charge))));
     }
 
 -- every clause of `quick_plan`, of an answer that equals the definition
-module _ (s : List ℕ) {r : QuickPlan} (e : r ≡ quickOf s) where
-  pub quick-answered : Answered s r
+module _ (s : List ℕ) (charge : ℕ) {r : QuickPlan} (e : r ≡ quickOf s charge) where
+  pub quick-answered : Answered s charge r
   unfolding quickOf
-  quick-answered = rw e (answered s (tableOutcome s) refl)
+  quick-answered = rw e (answered s charge (tableOutcome s charge) refl)
 
-  for-valid : (Q : QuickPlan → Type 0) → (Within (fieldsOf s) → Q (quickFor (fieldsOf s))) → Valid s → Q r
+  for-valid : (Q : QuickPlan → Type 0) → (Within (fieldsOf s charge) → Q (quickFor (fieldsOf s charge))) → Valid s charge → Q r
   unfolding quickOf quickBy
-  for-valid Q h v = rw (e, accepts (decides (table-tested s)) .1 v) (h (v .fields))
+  for-valid Q h v = rw (e, accepts (decides (table-tested s charge)) .1 v) (h (v .fields))
 
-  pub quick-decides : Decides (Valid s) (conditions s) (r .outcome)
+  pub quick-decides : Decides (Valid s charge) (conditions s charge) (r .outcome)
   unfolding quickOf
-  quick-decides = rw (e, quick-outcome (tableOutcome s) (fieldsOf s)) (decides (table-tested s))
+  quick-decides = rw (e, quick-outcome (tableOutcome s charge) (fieldsOf s charge)) (decides (table-tested s charge))
 
-  pub quick-safe : Valid s → Safe (fieldsOf s) (r .placement) (r .rejected)
-  quick-safe = for-valid (λ x. Safe (fieldsOf s) (x .placement) (x .rejected)) (safe (fieldsOf s))
+  pub quick-safe : Valid s charge → Safe (fieldsOf s charge) (r .placement) (r .rejected)
+  quick-safe = for-valid (λ x. Safe (fieldsOf s charge) (x .placement) (x .rejected)) (safe (fieldsOf s charge))
 
-  pub quick-lowest : Valid s → Lowest (fieldsOf s) r
-  quick-lowest = for-valid (Lowest (fieldsOf s)) (lowest (fieldsOf s))
+  pub quick-lowest : Valid s charge → Lowest (fieldsOf s charge) r
+  quick-lowest = for-valid (Lowest (fieldsOf s charge)) (lowest (fieldsOf s charge))
 
   -- one within the other, as the contract's clauses stand
-  pub quick-promised : (r ≡ quickOf s) × (Decides (Valid s) (conditions s) (r .outcome)
-      × ((Valid s → Safe (fieldsOf s) (r .placement) (r .rejected)) × ((Valid s → Lowest (fieldsOf s) r)
-      × (Agrees s r × (NoLess s r × (Descent s r × (numberIn (r .outcome) ≢ 0 → RefusedQuick r)))))))
+  pub quick-promised : (r ≡ quickOf s charge) × (Decides (Valid s charge) (conditions s charge) (r .outcome)
+      × ((Valid s charge → Safe (fieldsOf s charge) (r .placement) (r .rejected)) × ((Valid s charge → Lowest (fieldsOf s charge) r)
+      × (Agrees s charge r × (NoLess s charge r × (Descent s charge r × (numberIn (r .outcome) ≢ 0 → RefusedQuick r)))))))
   quick-promised = (
     e,
     (quick-decides, (quick-safe, (quick-lowest, (quick-answered .exact, (quick-answered .no-less, (quick-answered .descent, quick-answered .refused)))))),

@@ -49,11 +49,11 @@ module _ {t : TaskSet} (c : Checked t) {o : List ℕ} (e : o ≡ planningOrder t
 
 -- ---- from the reader's answer to the plan
 
-module _ (s : List ℕ) {g : Reading} (e : g ≡ readingOf s) where
-  pub quick-refused : {c : Cause} {r : QuickPlan} → r ≡ refusedQuick c → g .outcome ≡ outcome.Refused c → r ≡ quickOf s
+module _ (s : List ℕ) (charge : ℕ) {g : Reading} (e : g ≡ readingOf s charge) where
+  pub quick-refused : {c : Cause} {r : QuickPlan} → r ≡ refusedQuick c → g .outcome ≡ outcome.Refused c → r ≡ quickOf s charge
   unfolding quickOf quickBy
-  quick-refused w q = rw (← read-outcome s e, q) w
+  quick-refused w q = rw (← read-outcome s charge e, q) w
 
-  pub quick-accepted : {r : QuickPlan} → g .outcome ≡ outcome.Accepted → r ≡ quickFor (g .tasks .fields) → r ≡ quickOf s
+  pub quick-accepted : {r : QuickPlan} → g .outcome ≡ outcome.Accepted → r ≡ quickFor (g .tasks .fields) → r ≡ quickOf s charge
   unfolding quickOf quickBy
-  quick-accepted q w = rw (← read-outcome s e, q) (w ∙ ap quickFor (fields-are s e q))
+  quick-accepted q w = rw (← read-outcome s charge e, q) (w ∙ ap quickFor (fields-are s charge e q))

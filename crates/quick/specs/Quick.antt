@@ -35,6 +35,6 @@ unfoldable pub quickBy : Outcome → Fields → QuickPlan
 quickBy (Refused cause) f = refusedQuick cause
 quickBy Accepted f = quickFor f
 
--- the answer for a table
-unfoldable pub quickOf : List ℕ → QuickPlan
-quickOf s = quickBy (tableOutcome s) (fieldsOf s)
+-- the answer for a table and the charge beside it
+unfoldable pub quickOf : List ℕ → ℕ → QuickPlan
+quickOf s charge = quickBy (tableOutcome s charge) (fieldsOf s charge)

@@ -50,18 +50,18 @@ pub fn quick_tasks(t: TaskSet) -> QuickPlan
     }
 }
 
-// The quick plan of a stored table: each task, in planning order, on the lowest core where it still fits, or left out.
-pub fn quick_plan(table: &[u8]) -> QuickPlan
-    ensures answer { λ r. ⌜ r ≡ quickOf (now (table .entry)) ⌝ }
-    ensures decides { λ r. ⌜ Decides (Valid (now (table .entry))) (conditions (now (table .entry))) (r .outcome) ⌝ }
-    ensures safe { λ r. ⌜ (Valid (now (table .entry)) → Safe (fieldsOf (now (table .entry))) (r .placement) (r .rejected)) ⌝ }
-    ensures lowest { λ r. ⌜ (Valid (now (table .entry)) → Lowest (fieldsOf (now (table .entry))) r) ⌝ }
-    ensures exact { λ r. ⌜ Agrees (now (table .entry)) r ⌝ }
-    ensures no_less { λ r. ⌜ NoLess (now (table .entry)) r ⌝ }
-    ensures descent { λ r. ⌜ Descent (now (table .entry)) r ⌝ }
+// The quick plan of a stored table on a board with this charge: each task, in planning order, on the lowest core where it still fits, or left out.
+pub fn quick_plan(table: &[u8], charge: u32) -> QuickPlan
+    ensures answer { λ r. ⌜ r ≡ quickOf (now (table .entry)) charge ⌝ }
+    ensures decides { λ r. ⌜ Decides (Valid (now (table .entry)) charge) (conditions (now (table .entry)) charge) (r .outcome) ⌝ }
+    ensures safe { λ r. ⌜ (Valid (now (table .entry)) charge → Safe (fieldsOf (now (table .entry)) charge) (r .placement) (r .rejected)) ⌝ }
+    ensures lowest { λ r. ⌜ (Valid (now (table .entry)) charge → Lowest (fieldsOf (now (table .entry)) charge) r) ⌝ }
+    ensures exact { λ r. ⌜ Agrees (now (table .entry)) charge r ⌝ }
+    ensures no_less { λ r. ⌜ NoLess (now (table .entry)) charge r ⌝ }
+    ensures descent { λ r. ⌜ Descent (now (table .entry)) charge r ⌝ }
     ensures refused { λ r. ⌜ (numberIn (r .outcome) ≢ 0 → RefusedQuick r) ⌝ }
 {
-    let reading = stored::read_table(table);
+    let reading = stored::read_charged(table, charge);
     let outcome = reading.outcome;
     match outcome {
         Outcome::Refused(cause) => refused(cause),

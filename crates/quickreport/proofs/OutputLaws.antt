@@ -43,12 +43,12 @@ never-refused f {plan} e q h =
     omega arith
 
 -- the definition, by the outcome of the table's tests
-output-is : (s : List ℕ) → quickOutputOf s ≡ printed (tableOutcome s) (quickLines (taskSetOf (fieldsOf s)) (quickFor (fieldsOf s)))
+output-is : (s : List ℕ) → quickOutputOf s ≡ printed (tableOutcome s 0) (quickLines (taskSetOf (fieldsOf s 0)) (quickFor (fieldsOf s 0)))
 unfolding quickOutputOf quickOf quickBy readingOf readingBy acceptedReading
-output-is s = rw (quick-outcome (tableOutcome s) (fieldsOf s)) (printed-same (tableOutcome s) (λ e. rw e))
+output-is s = rw (quick-outcome (tableOutcome s 0) (fieldsOf s 0)) (printed-same (tableOutcome s 0) (λ e. rw e))
 
 -- ---- from the reader's answer to the output: both clauses of `report`
 
-pub output-both : (s : List ℕ) {x : List ℕ} → x ≡ printed (tableOutcome s) (quickLines (taskSetOf (fieldsOf s)) (quickFor (fieldsOf s)))
+pub output-both : (s : List ℕ) {x : List ℕ} → x ≡ printed (tableOutcome s 0) (quickLines (taskSetOf (fieldsOf s 0)) (quickFor (fieldsOf s 0)))
     → (x ≡ quickOutputOf s) × Reported s x
 output-both s e = (e ∙ sym (output-is s), in-terms s _ e)

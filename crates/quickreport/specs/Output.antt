@@ -20,10 +20,10 @@ quickSummary plan = ascii "quick" ++ field (plan .rejected) ++ ascii "\n"
 unfoldable pub quickLines : TaskSet → QuickPlan → List ℕ
 quickLines t plan = tableLines t (plan .placement) ++ quickSummary plan
 
--- the output for the bytes of a table: its quick plan
+-- the output for the bytes of a table: its quick plan with charge 0
 unfoldable pub quickOutputOf : List ℕ → List ℕ
-quickOutputOf s = printed (quickOf s .outcome) (quickLines (readingOf s .tasks) (quickOf s))
+quickOutputOf s = printed (quickOf s 0 .outcome) (quickLines (readingOf s 0 .tasks) (quickOf s 0))
 
--- A valid table's output is its sizes, its tasks and its quick plan; a refused one's is its refusal alone.
+-- A valid table's output is its sizes, its tasks and its quick plan with charge 0; a refused one's is its refusal alone.
 abbrev pub Reported : List ℕ → List ℕ → Type 0
-Reported s output = Printed s (quickLines (taskSetOf (fieldsOf s)) (quickFor (fieldsOf s))) output
+Reported s output = Printed s (quickLines (taskSetOf (fieldsOf s 0)) (quickFor (fieldsOf s 0))) output

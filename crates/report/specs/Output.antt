@@ -27,6 +27,6 @@ summaryLine plan = verdictWord (plan .verdict) ++ field (plan .rejected) ++ fiel
 unfoldable pub planLines : TaskSet → Allocation → List ℕ
 planLines t plan = tableLines t (plan .placement) ++ summaryLine plan
 
--- the output for the bytes of a table: its plan within 1,000,000 steps
+-- the output for the bytes of a table: its plan with charge 0 within 1,000,000 steps
 unfoldable pub outputOf : List ℕ → List ℕ
-outputOf s = printed (verdictOutcome (planOf s 1000000 .verdict)) (planLines (readingOf s .tasks) (planOf s 1000000))
+outputOf s = printed (verdictOutcome (planOf s 0 1000000 .verdict)) (planLines (readingOf s 0 .tasks) (planOf s 0 1000000))

@@ -138,6 +138,7 @@ plain-stepped charge slots requests r size e =
       kept = λ i h n. rw (released-at charge requests slots i) (plain-kept charge (getD requests i 0) (slotAt slots i) n);
       idle = rw run (plain-idle ready sixteen);
       runs = rw run (plain-choice ready sixteen);
+      charge-kept = λ i. e i .charge;
       next = λ i h. rw (next, advanced-at (r .run) ready i) (plain-next (r .run) (suc i) (slotAt ready i));
       next-sixteen = rw next (advanced-length (r .run) ready ∙ sixteen);
     }

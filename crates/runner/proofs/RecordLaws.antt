@@ -1,24 +1,72 @@
--- A tick takes exactly the records whose slots can all be, and refuses another with its first slot that cannot.
-use Prim.Native.Nat.{ℕ, _+_}
+-- A tick takes exactly the records with a charge of at most 9 whose slots can all be, and refuses another for its charge or its first slot that cannot.
+use Prim.Native.Nat.{ℕ, _+_, _%_, _≤_, _<_}
 use mathlib.Core.Path.{_≡_, refl, sym, _∙_, ap}
 use mathlib.Core.List.{List}
-use mathlib.Core.Bool.{Bool, true, false, not, _||_, true≢false, not-eq-not}
-use mathlib.Core.Logic.{inl, inr}
+use mathlib.Core.Bool.{Bool, true, false, not, _&&_, _||_, or-true, true≢false, not-eq-not}
+use mathlib.Core.Logic.{inl, inr, by-cases}
 use lib.Dec.{eqb, ltb, leb}
 use native.Mathlib.Omega.{arith}
-use borrow.Author.Tests.{eqb-true, eqb-false, ltb-false, leb-false, not-false}
+use native.Mathlib.Decide.{ℕ-discrete, decLt}
+use native.Mathlib.Nat.{mod-eq-of-lt}
+use borrow.Author.Tests.{eqb-true, eqb-false, eq-eqb, ne-eqb, lt-ltb, le-ltb, le-leb, ltb-true, ltb-false, leb-false, not-false}
 use Rattle.numbers.proofs.BoolLaws.{or-false-left, or-false-right}
+use Rattle.numbers.proofs.BoundLaws.{less-exactly, not-less}
 use Rattle.numbers.proofs.FirstLaws.{Holds, first-zero}
-use Rattle.refusal.specs.Tests.{refuseAt}
+use Rattle.refusal.specs.Tests.{_then_, refuseIf, refuseAt}
 use Rattle.refusal.specs.Conditions.{Decides}
 use Rattle.refusal.specs.declared.Cause.the-variants.{Slot as WrongSlot}
+use Rattle.refusal.specs.declared.Outcome.{Outcome}
 use Rattle.refusal.specs.declared.Outcome.the-variants.{Accepted, Refused}
 use Rattle.refusal.proofs.TestLaws.{refuseAt-zero, refuse-found}
-use Rattle.refusal.proofs.ConditionLaws.{test-at, decides}
+use Rattle.refusal.proofs.ConditionLaws.{test-only, test-at, _and_, decides}
 use Rattle.edf.specs.declared.Slot.{Slot}
 use Rattle.edf.specs.Slots.{slotAt, slotTest, firstSlot, cannotBe, firstWrong, CanBe}
 use Rattle.edf.proofs.StepLaws.{allowed}
 use Rattle.runner.specs.Records.{ValidRecord, recordConditions}
+
+-- The test as its program makes it, with the budget's remainder by 65,536.
+module _ (charge : ℕ) (s : Slot) where
+  -- the remainder and the charge
+  abbrev cost : ℕ
+  cost = s .budget % 65536 + charge
+
+  shorten : (x y z : Bool) → (y ≡ true → z ≡ true) → (x || y || z) ≡ (x || z)
+  shorten true y z h = refl
+  shorten false true z h = sym (h refl)
+  shorten false false z h = refl
+
+  -- a budget that is not its remainder is above the period, or the period is above 10,000
+  ranges-by : (ltb 10000 (s .period) || eqb (s .budget) 0 || ltb (s .period) (s .budget) || ltb (s .period) cost || leb (s .period) (s .until) || ltb cost (s .remaining))
+      ≡ (ltb 10000 (s .period) || eqb (s .budget) 0 || ltb (s .period) (s .budget + charge) || leb (s .period) (s .until) || ltb (s .budget + charge) (s .remaining))
+  ranges-by =
+      by-cases (decLt (s .budget) 65536)
+      (λ h. let same : s .budget % 65536 ≡ s .budget = mod-eq-of-lt h in
+      rw same
+      (ap (λ x. x || leb (s .period) (s .until) || ltb (s .budget + charge) (s .remaining))
+      (shorten (ltb 10000 (s .period) || eqb (s .budget) 0) (ltb (s .period) (s .budget)) (ltb (s .period) (s .budget + charge))
+      (λ t. lt-ltb (s .period) (s .budget + charge) (omega (arith, ltb-true (s .period) (s .budget) t))))))
+      (λ h. by-cases (decLt 10000 (s .period))
+      (λ g. rw (lt-ltb 10000 (s .period) g))
+      (λ g. rw (
+        le-ltb 10000 (s .period) (omega arith),
+        ne-eqb (s .budget) 0 (λ z. omega arith),
+        lt-ltb (s .period) (s .budget) (omega arith),
+        lt-ltb (s .period) (s .budget + charge) (omega arith),
+      )))
+
+  -- where the period is 0, the release is out of range
+  pub cannot-be-by : ((not (eqb (s .period) 0) || not (eqb (s .budget) 0) || not (eqb (s .until) 0) || not (eqb (s .remaining) 0))
+      && (ltb 10000 (s .period) || eqb (s .budget) 0 || ltb (s .period) (s .budget) || ltb (s .period) cost || leb (s .period) (s .until) || ltb cost (s .remaining)))
+      ≡ cannotBe charge s
+  cannot-be-by =
+      by-cases (ℕ-discrete (s .period) 0)
+      (λ z. rw (ranges-by, eq-eqb (s .period) 0 z, le-leb (s .period) (s .until) (omega arith), or-true)
+      (empty-by (not (eqb (s .budget) 0) || not (eqb (s .until) 0) || not (eqb (s .remaining) 0))))
+      (λ n. rw (ranges-by, ne-eqb (s .period) 0 n))
+    where
+      empty-by : (x : Bool) → (x && true) ≡ (x || false)
+      empty-by true = refl
+      empty-by false = refl
 
 not-zero : (x : ℕ) → not (eqb x 0) ≡ false → x ≡ 0
 not-zero x e = eqb-true x 0 (not-false (eqb x 0) e)
@@ -54,25 +102,46 @@ module _ (charge : ℕ) (slots : List Slot) where
   unfolding slotTest
   wrong-says i h c = true≢false (sym h ∙ allowed charge (slotAt slots i) c)
 
-  record-decides : Decides (ValidRecord charge slots) (recordConditions charge slots) (refuseAt (firstWrong charge slots) WrongSlot)
+  -- the outcome of a tick is right
+  abbrev pub Decided : Outcome → Type 0
+  Decided outcome = Decides (ValidRecord charge slots) (recordConditions charge slots) outcome
+
+  -- its charge, then its slots
+  record-decides : Decided (refuseIf (ltb 9 charge) (WrongSlot 0) then refuseAt (firstWrong charge slots) WrongSlot)
   unfolding firstSlot slotTest
   record-decides = decides (record {
-    reports = test-at WrongSlot (λ k. (refl, refl)) (λ i. (wrong-says i, λ n. not-eq-not .0 (λ e. n (can-be charge _ e))));
+    reports =
+        test-only (WrongSlot 0) refl (less-exactly 9 charge)
+        and test-at WrongSlot (λ k. (refl, refl)) (λ i. (wrong-says i, λ n. not-eq-not .0 (λ e. n (can-be charge _ e))));
     valid = (
-      λ n i h. can-be charge (slotAt slots i) (not-eq-not .0 (λ e. n .0 i h (wrong-says i e))),
-      λ v. (λ i h n. n (v i h), tt),
+      λ n. record {
+        charge-most = not-less 9 charge (n .0);
+        slots-can-be = λ i h. can-be charge (slotAt slots i) (not-eq-not .0 (λ e. n .1 .0 i h (wrong-says i e)));
+      },
+      λ v. (λ h. omega (arith, v .charge-most), (λ i h n. n (v .slots-can-be i h), tt)),
     );
   })
 
   -- what the promise says at each end of the program
-  module _ {wrong : ℕ} (e : wrong ≡ firstWrong charge slots) where
-    pub record-refused : (wrong ≡ 0 → ⊥) → Decides (ValidRecord charge slots) (recordConditions charge slots) (Refused (WrongSlot wrong))
-    record-refused n = rw (sym (refuse-found wrong WrongSlot n) ∙ ap (λ k. refuseAt k WrongSlot) e) record-decides
+  pub record-overcharged : 9 < charge → Decided (Refused (WrongSlot 0))
+  unfolding refuseIf _then_
+  record-overcharged h = rw (lt-ltb 9 charge h) at record-decides
 
-    pub record-accepted : wrong ≡ 0 → Decides (ValidRecord charge slots) (recordConditions charge slots) Accepted
-    record-accepted z = rw (sym (refuseAt-zero wrong WrongSlot z) ∙ ap (λ k. refuseAt k WrongSlot) e) record-decides
+  module _ (h : charge ≤ 9) {wrong : ℕ} (e : wrong ≡ firstWrong charge slots) where
+    slots-decide : Decided (refuseAt wrong WrongSlot)
+    unfolding refuseIf _then_
+    slots-decide = rw (le-ltb 9 charge h, ← e) at record-decides
+
+    pub record-refused : (wrong ≡ 0 → ⊥) → Decided (Refused (WrongSlot wrong))
+    record-refused n = rw (refuse-found wrong WrongSlot n) at slots-decide
+
+    pub record-accepted : wrong ≡ 0 → Decided Accepted
+    record-accepted z = rw (refuseAt-zero wrong WrongSlot z) at slots-decide
 
     -- and what an accepted record is
     pub record-valid : wrong ≡ 0 → ValidRecord charge slots
     unfolding firstSlot slotTest
-    record-valid z i h = can-be charge (slotAt slots i) (first-zero (slotTest (cannotBe charge) slots) 16 (sym e ∙ z) i h)
+    record-valid z = record {
+      charge-most = h;
+      slots-can-be = λ i b. can-be charge (slotAt slots i) (first-zero (slotTest (cannotBe charge) slots) 16 (sym e ∙ z) i b);
+    }

@@ -85,7 +85,7 @@ module _ {charge : ℕ} {requests : List ℕ} {slots now : List Slot} {i late : 
   pub pass-empty : ValidRecord charge slots → (d : Slot) {next : List Slot} {late₁ : ℕ} {choice₁ : Claim} → getD now i d .period ≡ 0
       → next ≡ now → late₁ ≡ late → choice₁ ≡ choice → AfterSlots charge requests slots (i + 1) next late₁ choice₁
   unfolding release
-  pass-empty valid d z en el ec = elim (valid i h) [
+  pass-empty valid d z en el ec = elim (valid .slots-can-be i h) [
     | inl e ↦
         let empty : after ≡ emptySlot = rw e refl in
         pass-slot
@@ -93,6 +93,13 @@ module _ {charge : ℕ} {requests : List ℕ} {slots now : List Slot} {i late : 
         (el ∙ rw (e, and-false) refl)
         (ec ∙ rw empty refl)
     | inr u ↦ absurd (omega (arith, u .period-in, rw (read d) at z))
+  ]
+
+  -- an occupied slot has room for its budget and the charge
+  pub pass-cost : ValidRecord charge slots → (d : Slot) → getD now i d .period ≢ 0 → getD now i d .budget + charge ≤ 10000
+  pass-cost valid d p = elim (valid .slots-can-be i h) [
+    | inl e ↦ absurd (p (rw (read d, e) refl))
+    | inr u ↦ rw (read d) (omega (arith, u .period-in, u .budget-in))
   ]
 
   occupied : (d : Slot) → getD now i d .period ≢ 0 → 0 < before .period

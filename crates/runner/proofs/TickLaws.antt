@@ -6,12 +6,11 @@ use mathlib.Core.Bool.{Bool, true, false, cond, _&&_, _||_}
 use mathlib.Core.List.{List}
 use native.Mathlib.Omega.{arith}
 use native.Mathlib.Decide.{ℕ-discrete}
-use native.Mathlib.Nat.{add-zero}
+use native.Mathlib.Nat.{min-le-left}
 use lib.Dec.{eqb, ltb}
 use lib.ListN.{length, getD, set, length-set}
 use lib.Seq.{getD-set-same, getD-set-other, ext-getD}
 use borrow.Author.Tests.{eq-eqb, ne-eqb, lt-ltb, le-ltb}
-use Rattle.numbers.proofs.BoolLaws.{cond-both}
 use Rattle.refusal.specs.declared.Outcome.the-variants.{Accepted, Refused}
 use Rattle.refusal.specs.declared.Cause.the-variants.{Slot as WrongSlot}
 use Rattle.edf.specs.declared.Slot.{Slot}
@@ -26,20 +25,24 @@ use Rattle.runner.specs.Answers.{tickAnswer}
 use Rattle.runner.specs.Sweep.{lateSoFar, choiceSoFar}
 use Rattle.runner.proofs.SlotMore.{getD-any}
 
--- Where there is no charge a task is owed the smaller of request and budget.
-owed-uncharged : (budget asked : ℕ) → owedFor 0 budget asked ≡ min asked budget
-unfolding owedFor
-owed-uncharged budget asked =
-    cond-both (λ n. min asked budget + n ≡ min asked budget) (eqb asked 0) 0 0 (add-zero _) (add-zero _)
+-- What a task is owed, by the test of its request.
+module _ (charge budget : ℕ) {asked : ℕ} where
+  pub owed-none : asked ≡ 0 → 0 ≡ owedFor charge budget asked
+  unfolding owedFor
+  owed-none e = rw (eq-eqb asked 0 e) (omega (arith, min-le-left asked budget))
+
+  pub owed-some : {least : ℕ} → (asked ≡ 0 → ⊥) → least ≡ min asked budget → least + charge ≡ owedFor charge budget asked
+  unfolding owedFor
+  owed-some n e = rw (ne-eqb asked 0 n, e)
 
 -- A slot as its program makes it: each field that changes, by its own call.
 pub advanced-by : (s : Slot) {until : ℕ} → until ≡ s .until - 1
     → record { period = s .period; budget = s .budget; until = until; remaining = s .remaining } ≡ advanced s
 advanced-by s e = λ i. record { period = s .period; budget = s .budget; until = e i; remaining = s .remaining }
 
-pub released-by : (s : Slot) (asked : ℕ) {owed : ℕ} → owed ≡ min asked (s .budget)
-    → record { period = s .period; budget = s .budget; until = s .period; remaining = owed } ≡ released s (owedFor 0 (s .budget) asked)
-released-by s asked e = ap (released s) (e ∙ sym (owed-uncharged (s .budget) asked))
+pub released-by : (s : Slot) {owed x : ℕ} → owed ≡ x
+    → record { period = s .period; budget = s .budget; until = s .period; remaining = owed } ≡ released s x
+released-by s e = ap (released s) e
 
 pub ran-by : (s : Slot) {remaining : ℕ} → remaining ≡ s .remaining - 1
     → record { period = s .period; budget = s .budget; until = s .until; remaining = remaining } ≡ ran s
@@ -96,22 +99,27 @@ run-one task slots d {y} size h n e =
 -- The three steps as their program makes them.
 pub stepped-by : (charge : ℕ) (slots : List Slot) (requests : List ℕ) (late run : ℕ) (next : List Slot) → late ≡ firstLate slots
     → run ≡ chosen (releaseAll charge requests slots) → next ≡ advanceAll run (releaseAll charge requests slots)
-    → tickAnswer (record { core = record { slots = next }; run = run; late = late; outcome = Accepted }) ≡ stepped charge slots requests
+    → tickAnswer (record { core = record { slots = next; charge = charge }; run = run; late = late; outcome = Accepted }) ≡ stepped charge slots requests
 unfolding tickAnswer stepped
 stepped-by charge slots requests late run next el ec en = rw (en, ec, el)
 
 -- and the refusal
 pub refused-by : (core : Core) (slot : ℕ) {r : Ticked} → r ≡ record { core = core; run = 0; late = 0; outcome = Refused (WrongSlot slot) }
-    → tickAnswer r ≡ refusedTick (core .slots) slot
+    → tickAnswer r ≡ refusedTick (core .charge) (core .slots) slot
 unfolding tickAnswer refusedTick
 refused-by core slot e = ap tickAnswer e
 
--- A tick, by its test.
-module _ (charge : ℕ) (slots : List Slot) (requests : List ℕ) {wrong : ℕ} (e : wrong ≡ firstWrong charge slots) where
-  pub tick-accepted : wrong ≡ 0 → stepped charge slots requests ≡ tick charge slots requests
+-- A tick, by its tests.
+module _ (charge : ℕ) (slots : List Slot) (requests : List ℕ) where
+  pub tick-overcharged : 9 < charge → refusedTick charge slots 0 ≡ tick charge slots requests
   unfolding tick
-  tick-accepted z = rw (← e, eq-eqb wrong 0 z)
+  tick-overcharged h = rw (lt-ltb 9 charge h)
 
-  pub tick-refused : (wrong ≡ 0 → ⊥) → refusedTick slots wrong ≡ tick charge slots requests
-  unfolding tick
-  tick-refused n = rw (← e, ne-eqb wrong 0 n)
+  module _ (h : charge ≤ 9) {wrong : ℕ} (e : wrong ≡ firstWrong charge slots) where
+    pub tick-accepted : wrong ≡ 0 → stepped charge slots requests ≡ tick charge slots requests
+    unfolding tick
+    tick-accepted z = rw (le-ltb 9 charge h, ← e, eq-eqb wrong 0 z)
+
+    pub tick-refused : (wrong ≡ 0 → ⊥) → refusedTick charge slots wrong ≡ tick charge slots requests
+    unfolding tick
+    tick-refused n = rw (le-ltb 9 charge h, ← e, ne-eqb wrong 0 n)

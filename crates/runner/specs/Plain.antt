@@ -43,7 +43,7 @@ pub record PlainNext (runs : Type 0) (s t : Slot) : Type 0 where
   pub runs-one : runs → t .remaining ≡ s .remaining - 1
   pub waits : (runs → ⊥) → t .remaining ≡ s .remaining
 
--- What an accepted tick hands back.
+-- What an accepted tick of a record with this charge and these slots hands back.
 pub record PlainTick (charge : ℕ) (slots : List Slot) (requests : List ℕ) (r : Ticked) : Type 0 where
   -- The late task is the first whose period begins with ticks still owed; 0 if there is none.
   pub late : ((r .late ≡ 0) × ((i : ℕ) → i < 16 → StillOwes (slotAt slots i) → ⊥)) ⊎ FirstAt (λ i. StillOwes (slotAt slots i)) 16 (r .late)
@@ -55,7 +55,9 @@ pub record PlainTick (charge : ℕ) (slots : List Slot) (requests : List ℕ) (r
   -- The tick is idle exactly if none of them owes ticks; otherwise the task run is the one to choose.
   pub idle : (r .run ≡ 0) ↔ ((i : ℕ) → i < 16 → slotAt ready i .remaining ≡ 0)
   pub runs : (i : ℕ) → r .run ≡ suc i → PlainChoice ready i
-  -- The record handed back has sixteen slots too: the one that ran owes one less, and every occupied slot's release is one tick nearer.
+  -- The record handed back has the charge as it was, and sixteen slots too: the one that ran owes one less, and every occupied slot's release
+  -- is one tick nearer.
+  pub charge-kept : r .core .charge ≡ charge
   pub next : (i : ℕ) → i < 16 → PlainNext (suc i ≡ r .run) (slotAt ready i) (slotAt (r .core .slots) i)
   pub next-sixteen : length (r .core .slots) ≡ 16
 

@@ -1,7 +1,8 @@
 // The runner of one core: its record and one tick.
 ghost use mathlib.Core.Path.{_≡_};
 ghost use mathlib.Core.Logic.{_≢_};
-ghost use Prim.Native.Nat.{_-_, _≤_, min};
+ghost use Prim.Native.Nat.{_+_, _-_, _≤_, min};
+ghost use lib.Dec.{eqb};
 ghost use Rattle.edf.specs.Slots.{each, cannotBe, firstWrong};
 ghost use Rattle.edf.specs.Tick.{owedFor, released as releasedOf, ran as ranOf, run as runSlot, advanced as advancedOf, stepped as steppedOf, tick as tickOf};
 ghost use Rattle.refusal.specs.Conditions.{Decides};
@@ -16,9 +17,10 @@ use edf::Slot;
 use refusal::Cause;
 use refusal::Outcome;
 
-// A core record. Slot k is task k's, and is occupied if its period is not 0.
+// A core record. Slot k is task k's, and is occupied if its period is not 0; `charge` is the board's switch charge.
 pub struct Core {
     pub slots: [Slot; 16],
+    pub charge: u32,
 }
 
 // What a tick hands back: the next record, the task run (0 for idle), the late task (0 for none), and whether it was refused.
@@ -36,17 +38,20 @@ struct Swept {
     choice: Claim,
 }
 
-// Whether a slot cannot be.
-fn cannot_be(s: Slot) -> bool
-    ensures { λ r. ⌜ r ≡ cannotBe 0 s ⌝ }
+// Whether a slot cannot be: it is not all zeros, and a field is out of its range. In a period of 0 no release is within the period.
+// A budget of 65,536 or more is above its period, or the period is above 10,000, whatever the cost is: so the remainder does, and the sum fits.
+fn cannot_be(charge: u32, s: Slot) -> bool
+    requires { ⌜ charge ≤ 9 ⌝ }
+    ensures { λ r. ⌜ r ≡ cannotBe charge s ⌝ }
 {
-    (s.period == 0) & ((s.budget != 0) | (s.until != 0) | (s.remaining != 0))
-        | (s.period != 0)
-            & ((10000 < s.period)
-                | (s.budget == 0)
-                | (s.period < s.budget)
-                | (s.period <= s.until)
-                | (s.budget < s.remaining))
+    let cost = s.budget % 65536 + charge;
+    ((s.period != 0) | (s.budget != 0) | (s.until != 0) | (s.remaining != 0))
+        & ((10000 < s.period)
+            | (s.budget == 0)
+            | (s.period < s.budget)
+            | (s.period < cost)
+            | (s.period <= s.until)
+            | (cost < s.remaining))
 }
 
 fn smaller(a: u32, b: u32) -> u32
@@ -55,11 +60,24 @@ fn smaller(a: u32, b: u32) -> u32
     if a < b { a } else { b }
 }
 
-// A slot that is released: its next release is a period away, and it owes the smaller of request and budget.
-fn released(asked: u32, s: Slot) -> Slot
-    ensures { λ r. ⌜ r ≡ releasedOf s (owedFor 0 (s .budget) asked) ⌝ }
+// What a task is owed for a period: nothing if it asks for nothing, or else the smaller of request and budget, and the charge.
+fn owed_for(charge: u32, budget: u32, asked: u32) -> u32
+    requires { ⌜ budget + charge ≤ 10000 ⌝ }
+    ensures { λ r. ⌜ r ≡ owedFor charge budget asked ⌝ }
 {
-    let owed = smaller(asked, s.budget);
+    if asked == 0 {
+        0
+    } else {
+        smaller(asked, budget) + charge
+    }
+}
+
+// A slot that is released: its next release is a period away, and it owes what its task is owed for the period.
+fn released(charge: u32, asked: u32, s: Slot) -> Slot
+    requires { ⌜ s .budget + charge ≤ 10000 ⌝ }
+    ensures { λ r. ⌜ r ≡ releasedOf s (owedFor charge (s .budget) asked) ⌝ }
+{
+    let owed = owed_for(charge, s.budget, asked);
     Slot {
         period: s.period,
         budget: s.budget,
@@ -129,14 +147,30 @@ fn ran(s: Slot) -> Slot
     }
 }
 
+// Whether every slot can be. It does not stop at one that cannot, so that the compiler may test several at once.
+fn all_can_be(charge: u32, slots: [Slot; 16]) -> bool
+    requires { ⌜ charge ≤ 9 ⌝ }
+    ensures { λ r. ⌜ r ≡ eqb (firstWrong charge slots) 0 ⌝ }
+{
+    let mut good = true;
+    let mut i: usize = 0;
+    while i < 16 {
+        let s = slots[i];
+        good = good & !cannot_be(charge, s);
+        i += 1;
+    }
+    good
+}
+
 // The number of the first slot that cannot be; 0 if there is none.
-fn first_wrong(slots: [Slot; 16]) -> usize
-    ensures { λ r. ⌜ r ≡ firstWrong 0 slots ⌝ }
+fn first_wrong(charge: u32, slots: [Slot; 16]) -> usize
+    requires { ⌜ charge ≤ 9 ⌝ }
+    ensures { λ r. ⌜ r ≡ firstWrong charge slots ⌝ }
 {
     let mut i: usize = 0;
     while i < 16 {
         let s = slots[i];
-        if cannot_be(s) {
+        if cannot_be(charge, s) {
             return i + 1;
         }
         i += 1;
@@ -145,9 +179,9 @@ fn first_wrong(slots: [Slot; 16]) -> usize
 }
 
 // The one pass of a tick: each occupied slot is released if it is due, may become the choice, and counts down.
-fn sweep(requests: [u32; 16], slots: [Slot; 16]) -> Swept
-    requires { ⌜ ValidRecord 0 slots ⌝ }
-    ensures { λ r. ⌜ AfterSlots 0 requests slots 16 (r .slots) (r .late) (r .choice) ⌝ }
+fn sweep(charge: u32, requests: [u32; 16], slots: [Slot; 16]) -> Swept
+    requires { ⌜ ValidRecord charge slots ⌝ }
+    ensures { λ r. ⌜ AfterSlots charge requests slots 16 (r .slots) (r .late) (r .choice) ⌝ }
 {
     let mut next = slots;
     let mut late: usize = 0;
@@ -163,7 +197,7 @@ fn sweep(requests: [u32; 16], slots: [Slot; 16]) -> Swept
             if s.until == 0 {
                 late = late_so_far(late, done + 1, s);
                 let asked = requests[done];
-                ready = released(asked, s);
+                ready = released(charge, asked, s);
             }
             choice = choice_so_far(choice, done + 1, ready);
             next[done] = advanced(ready);
@@ -190,18 +224,22 @@ fn after_run(run: usize, slots: [Slot; 16]) -> [Slot; 16]
     next
 }
 
-// The three steps of a record that passed the test.
+// The three steps of a record that passed the tests.
 fn stepped(core: Core, requests: [u32; 16]) -> Ticked
-    requires { ⌜ ValidRecord 0 (core .slots) ⌝ }
-    ensures answer { λ r. ⌜ tickAnswer r ≡ steppedOf 0 (core .slots) requests ⌝ }
+    requires { ⌜ ValidRecord (core .charge) (core .slots) ⌝ }
+    ensures answer { λ r. ⌜ tickAnswer r ≡ steppedOf (core .charge) (core .slots) requests ⌝ }
     ensures outcome { λ r. ⌜ r .outcome ≡ Accepted ⌝ }
 {
+    let charge = core.charge;
     let slots = core.slots;
-    let swept = sweep(requests, slots);
+    let swept = sweep(charge, requests, slots);
     let run = swept.choice.task;
     let counted = swept.slots;
     let next = after_run(run, counted);
-    let after = Core { slots: next };
+    let after = Core {
+        slots: next,
+        charge: charge,
+    };
     Ticked {
         core: after,
         run: run,
@@ -210,7 +248,7 @@ fn stepped(core: Core, requests: [u32; 16]) -> Ticked
     }
 }
 
-// Number 12 for a slot, with the record as it was.
+// Number 12 for a slot, or for the charge with slot 0, and the record as it was.
 fn refused(core: Core, slot: usize) -> Ticked
     ensures { λ r. ⌜ r ≡ record { core = core; run = 0; late = 0; outcome = Refused (WrongSlot slot) } ⌝ }
 {
@@ -225,17 +263,22 @@ fn refused(core: Core, slot: usize) -> Ticked
 impl Core {
     // One tick: release, choose, run and advance; or number 12 with the record as it was.
     pub fn tick(self, requests: [u32; 16]) -> Ticked
-        ensures answer { λ r. ⌜ tickAnswer r ≡ tickOf 0 (self .slots) requests ⌝ }
-        ensures decides { λ r. ⌜ Decides (ValidRecord 0 (self .slots)) (recordConditions 0 (self .slots)) (r .outcome) ⌝ }
-        ensures plain { λ r. ⌜ (r .outcome ≡ Accepted → PlainTick 0 (self .slots) requests r) ⌝ }
+        ensures answer { λ r. ⌜ tickAnswer r ≡ tickOf (self .charge) (self .slots) requests ⌝ }
+        ensures decides { λ r. ⌜ Decides (ValidRecord (self .charge) (self .slots)) (recordConditions (self .charge) (self .slots)) (r .outcome) ⌝ }
+        ensures plain { λ r. ⌜ (r .outcome ≡ Accepted → PlainTick (self .charge) (self .slots) requests r) ⌝ }
         ensures refused { λ r. ⌜ (r .outcome ≢ Accepted → PlainRefusal self r) ⌝ }
     {
-        let slots = self.slots;
-        let wrong = first_wrong(slots);
-        if wrong == 0 {
-            stepped(self, requests)
+        let charge = self.charge;
+        if 9 < charge {
+            refused(self, 0)
         } else {
-            refused(self, wrong)
+            let slots = self.slots;
+            if all_can_be(charge, slots) {
+                stepped(self, requests)
+            } else {
+                let wrong = first_wrong(charge, slots);
+                refused(self, wrong)
+            }
         }
     }
 }

@@ -14,9 +14,9 @@ use Rattle.taskset.specs.Fields.{periodAt, budgetAt}
 use Rattle.taskset.specs.Reading.{taskSetOf}
 use Rattle.stored.specs.Form.{taskCount, fieldsOf}
 use Rattle.stored.specs.Limits.{Valid, conditions}
-use Rattle.edf.specs.declared.Slot.{Slot}
 use Rattle.edf.specs.Slots.{slotAt}
 use Rattle.edf.specs.Guarantee.{TickGuarantee}
+use Rattle.runner.specs.declared.Core.{Core}
 use Rattle.start.specs.declared.Started.{Started}
 use Rattle.start.specs.Starts.{placedTasks, loadOf}
 
@@ -27,9 +27,9 @@ pub record Placed (t : TaskSet) (placement : List ℕ) (core : ℕ) : Type 0 whe
   pub number : (1 ≤ core) × (core ≤ t .fields .m)
   pub fits : loadOf t placement core ≤ t .hyperperiod
 
--- A fresh core is valid if its table is, and the placement, the core number and the load are within their limits.
-abbrev pub ValidStart : List ℕ → List ℕ → ℕ → Type 0
-ValidStart table placement core = Valid table × Placed (taskSetOf (fieldsOf table)) placement core
+-- A fresh core is valid if its table with the charge is, and the placement, the core number and the load are within their limits.
+abbrev pub ValidStart : List ℕ → ℕ → List ℕ → ℕ → Type 0
+ValidStart table charge placement core = Valid table charge × Placed (taskSetOf (fieldsOf table charge)) placement core
 
 -- The refusals of the placing, in the order of their tests: numbers 9 (length, then entries), 10, 11.
 abbrev pub placing : TaskSet → List ℕ → ℕ → List Condition
@@ -40,21 +40,25 @@ placing t placement core =
     ∷ only 11 (t .hyperperiod < loadOf t placement core)
     ∷ []
 
--- The table's refusals come first.
-abbrev pub startConditions : List ℕ → List ℕ → ℕ → List Condition
-startConditions table placement core = conditions table ++ placing (taskSetOf (fieldsOf table)) placement core
+-- The refusals of the table and the charge come first.
+abbrev pub startConditions : List ℕ → ℕ → List ℕ → ℕ → List Condition
+startConditions table charge placement core = conditions table charge ++ placing (taskSetOf (fieldsOf table charge)) placement core
 
--- What an accepted core is promised of the record that is handed back.
-pub record Serves (table placement : List ℕ) (core : ℕ) (slots : List Slot) : Type 0 where
+-- What an accepted core is promised of the record r that is handed back.
+pub record Serves (table : List ℕ) (charge : ℕ) (placement : List ℕ) (core : ℕ) (r : Core) : Type 0 where
+  -- It carries the charge.
+  pub carries : r .charge ≡ charge
   -- A task on the core begins with 0 ticks until its release and 0 owed;
   pub own : (k : ℕ) → k < taskCount table → entry placement k ≡ core
-      → slotAt slots k ≡ record { period = periodAt (fieldsOf table) k; budget = budgetAt (fieldsOf table) k; until = 0; remaining = 0 }
+      → slotAt (r .slots) k ≡ record { period = periodAt (fieldsOf table charge) k; budget = budgetAt (fieldsOf table charge) k; until = 0; remaining = 0 }
   -- every other slot is all zeros.
-  pub others : (k : ℕ) → k < 16 → (k < taskCount table → entry placement k ≢ core) → slotAt slots k ≡ record { period = 0; budget = 0; until = 0; remaining = 0 }
+  pub others : (k : ℕ) → k < 16 → (k < taskCount table → entry placement k ≢ core)
+      → slotAt (r .slots) k ≡ record { period = 0; budget = 0; until = 0; remaining = 0 }
   -- Every list of ticks from it has the tick guarantee.
-  pub ticks : (ticks : List (List ℕ)) → TickGuarantee (placedTasks (fieldsOf table) placement) core slots ticks
+  pub ticks : (ticks : List (List ℕ)) → TickGuarantee (placedTasks (fieldsOf table charge) placement) core (r .charge) (r .slots) ticks
 
--- What is promised of the answer: an accepted core serves, a refused one is a record of zeros.
-pub record Starts (table placement : List ℕ) (core : ℕ) (r : Started) : Type 0 where
-  pub accepted : r .outcome ≡ Accepted → Serves table placement core (r .core .slots)
-  pub refused : numberIn (r .outcome) ≢ 0 → r .core .slots ≡ replicate 16 (record { period = 0; budget = 0; until = 0; remaining = 0 })
+-- What is promised of the answer: an accepted core serves, a refused one is a record of zeros, its charge too.
+pub record Starts (table : List ℕ) (charge : ℕ) (placement : List ℕ) (core : ℕ) (r : Started) : Type 0 where
+  pub accepted : r .outcome ≡ Accepted → Serves table charge placement core (r .core)
+  pub refused : numberIn (r .outcome) ≢ 0
+      → r .core ≡ record { slots = replicate 16 (record { period = 0; budget = 0; until = 0; remaining = 0 }); charge = 0 }

@@ -19,12 +19,12 @@ use Rattle.taskset.specs.Reading.{taskSetOf}
 use Rattle.stored.specs.Form.{fieldsOf}
 use Rattle.stored.specs.Tests.{tableOutcome}
 use Rattle.edf.specs.Slots.{emptySlot}
-use Rattle.edf.specs.Fresh.{Tasks, plainTasks, freshSlots}
+use Rattle.edf.specs.Fresh.{Tasks, freshSlots}
 use Rattle.start.specs.declared.Started.{Started}
 
--- a table's tasks under a placement
+-- a table's tasks under a placement, with the charge beside it, each first released at tick 0
 abbrev pub placedTasks : Fields → List ℕ → Tasks
-placedTasks f placement = plainTasks (f .n) (f .periods) (f .budgets) placement
+placedTasks f placement = record { n = f .n; periods = f .periods; budgets = f .budgets; placement = placement; charge = f .charge; firstReleases = [] }
 
 -- the load that a placement puts on a core
 unfoldable pub loadOf : TaskSet → List ℕ → ℕ → ℕ
@@ -56,21 +56,21 @@ placingTests t placement core =
 
 -- the answer where the call is refused: a record of zeros beside the cause
 unfoldable pub refusedStart : Cause → Started
-refusedStart cause = record { outcome = Refused cause; core = record { slots = replicate 16 emptySlot } }
+refusedStart cause = record { outcome = Refused cause; core = record { slots = replicate 16 emptySlot; charge = 0 } }
 
--- the answer by the outcome of the tests
+-- the answer by the outcome of the tests: an accepted record carries the charge, that of an empty core too
 unfoldable pub startBy : Outcome → Tasks → ℕ → Started
 startBy (Refused cause) tasks core = refusedStart cause
-startBy Accepted tasks core = record { outcome = Accepted; core = record { slots = freshSlots tasks core } }
+startBy Accepted tasks core = record { outcome = Accepted; core = record { slots = freshSlots tasks core; charge = tasks .charge } }
 
 -- the outcome of the tests of a checked task set, a placement and a core number
 unfoldable pub placingOutcome : TaskSet → List ℕ → ℕ → Outcome
 placingOutcome t placement core = inOrder (placingTests t placement core)
 
--- the table's tests come first
-unfoldable pub startOutcome : List ℕ → List ℕ → ℕ → Outcome
-startOutcome table placement core = tableOutcome table then placingOutcome (taskSetOf (fieldsOf table)) placement core
+-- the tests of the table and the charge come first
+unfoldable pub startOutcome : List ℕ → ℕ → List ℕ → ℕ → Outcome
+startOutcome table charge placement core = tableOutcome table charge then placingOutcome (taskSetOf (fieldsOf table charge)) placement core
 
--- the answer for a table, a placement and a core number
-unfoldable pub startOf : List ℕ → List ℕ → ℕ → Started
-startOf table placement core = startBy (startOutcome table placement core) (placedTasks (fieldsOf table) placement) core
+-- the answer for a table, the charge beside it, a placement and a core number
+unfoldable pub startOf : List ℕ → ℕ → List ℕ → ℕ → Started
+startOf table charge placement core = startBy (startOutcome table charge placement core) (placedTasks (fieldsOf table charge) placement) core

@@ -157,7 +157,10 @@ fn refused(cause: Cause) -> Started
     ensures { λ r. ⌜ r ≡ refusedStart cause ⌝ }
 {
     let empty = Slot::empty();
-    let core = Core { slots: [empty; 16] };
+    let core = Core {
+        slots: [empty; 16],
+        charge: 0,
+    };
     Started {
         outcome: Outcome::Refused(cause),
         core: core,
@@ -175,7 +178,10 @@ pub fn start(t: TaskSet, placement: &[u8], core: u8) -> Started
         Outcome::Accepted => {
             let f = t.fields;
             let slots = fresh_slots(f, placement, core);
-            let record = Core { slots: slots };
+            let record = Core {
+                slots: slots,
+                charge: f.charge,
+            };
             Started {
                 outcome: Outcome::Accepted,
                 core: record,
@@ -184,13 +190,13 @@ pub fn start(t: TaskSet, placement: &[u8], core: u8) -> Started
     }
 }
 
-// The record that core `number` of a stored table starts from under a placement, or the first cause of refusal.
-pub fn fresh(table: &[u8], placement: &[u8], number: u8) -> Started
-    ensures answer { λ r. ⌜ r ≡ startOf (now (table .entry)) (now (placement .entry)) number ⌝ }
-    ensures decides { λ r. ⌜ Decides (ValidStart (now (table .entry)) (now (placement .entry)) number) (startConditions (now (table .entry)) (now (placement .entry)) number) (r .outcome) ⌝ }
-    ensures starts { λ r. ⌜ Starts (now (table .entry)) (now (placement .entry)) number r ⌝ }
+// The record that core `number` of a stored table starts from under a placement, on a board with this charge, or the first cause of refusal.
+pub fn fresh(table: &[u8], charge: u32, placement: &[u8], number: u8) -> Started
+    ensures answer { λ r. ⌜ r ≡ startOf (now (table .entry)) charge (now (placement .entry)) number ⌝ }
+    ensures decides { λ r. ⌜ Decides (ValidStart (now (table .entry)) charge (now (placement .entry)) number) (startConditions (now (table .entry)) charge (now (placement .entry)) number) (r .outcome) ⌝ }
+    ensures starts { λ r. ⌜ Starts (now (table .entry)) charge (now (placement .entry)) number r ⌝ }
 {
-    let reading = stored::read_table(table);
+    let reading = stored::read_charged(table, charge);
     let outcome = reading.outcome;
     match outcome {
         Outcome::Refused(cause) => refused(cause),

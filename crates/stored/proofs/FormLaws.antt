@@ -26,7 +26,7 @@ row-read xs {n} f e few h =
 
 pub fields-read-back : FieldsReadBack
 unfolding fieldsOf
-fields-read-back m periods budgets few e p b = λ i. record { n = length periods; m = m; periods = there i; budgets = here i }
+fields-read-back m charge periods budgets few e p b = λ i. record { n = length periods; m = m; charge = charge; periods = there i; budgets = here i }
   where
     there : row 0 (length periods) (wordAt (tableOf m periods budgets) 2) ≡ padded periods
     there = row-read periods _ refl few (read-back periods p .each (length periods ∷ m ∷ []) (bytesOfAll budgets))

@@ -15,11 +15,13 @@ taskCount s = getD s 0 0
 abbrev pub coreCount : List ℕ → ℕ
 coreCount s = getD s 1 0
 
--- the sizes, then n periods, then n budgets (the paper's times) in the same layout and task order; bytes past the end count as 0
-unfoldable pub fieldsOf : List ℕ → Fields
-fieldsOf s = record {
+-- the sizes, then n periods, then n budgets (the paper's times) in the same layout and task order; bytes past the end count as 0;
+-- the charge is given beside the table
+unfoldable pub fieldsOf : List ℕ → ℕ → Fields
+fieldsOf s charge = record {
   n = taskCount s;
   m = coreCount s;
+  charge = charge;
   periods = row 0 (taskCount s) (wordAt s 2);
   budgets = row 0 (taskCount s) (wordAt s (2 + 4 * taskCount s));
 }
@@ -30,5 +32,5 @@ tableOf m periods budgets = length periods ∷ m ∷ (bytesOfAll periods ++ byte
 
 -- The fields of a table made of sizes, periods and budgets are these, with zeros up to sixteen.
 abbrev pub FieldsReadBack : Type 0
-FieldsReadBack = (m : ℕ) (periods budgets : List ℕ) → length periods ≤ 16 → length budgets ≡ length periods → Words periods → Words budgets
-    → _≡_ {A = Fields} (fieldsOf (tableOf m periods budgets)) (record { n = length periods; m = m; periods = padded periods; budgets = padded budgets })
+FieldsReadBack = (m charge : ℕ) (periods budgets : List ℕ) → length periods ≤ 16 → length budgets ≡ length periods → Words periods → Words budgets
+    → _≡_ {A = Fields} (fieldsOf (tableOf m periods budgets) charge) (record { n = length periods; m = m; charge = charge; periods = padded periods; budgets = padded budgets })

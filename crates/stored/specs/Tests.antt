@@ -1,4 +1,4 @@
--- The tests of a stored table, numbers 1 to 7 in their order, and what reading it gives.
+-- The tests of a stored table and the charge beside it, in their order, and what reading it gives.
 use Prim.Native.Nat.{ℕ, _+_, _*_}
 use mathlib.Core.List.{List, _∷_, _++_}
 use mathlib.Core.Bool.{not}
@@ -21,9 +21,9 @@ abbrev pub lengthTest : List ℕ → Outcome
 lengthTest s = refuseIf (not (eqb (length s) (2 + 8 * taskCount s))) Length
 
 -- number 1, the sizes, number 4, the limits
-unfoldable pub tableOutcome : List ℕ → Outcome
-tableOutcome s = inOrder (shortTest s ∷ sizeTests (fieldsOf s) ++ lengthTest s ∷ limitTests (fieldsOf s))
+unfoldable pub tableOutcome : List ℕ → ℕ → Outcome
+tableOutcome s charge = inOrder (shortTest s ∷ sizeTests (fieldsOf s charge) ++ lengthTest s ∷ limitTests (fieldsOf s charge))
 
--- the answer for a table
-unfoldable pub readingOf : List ℕ → Reading
-readingOf s = readingBy (tableOutcome s) (fieldsOf s)
+-- the answer for a table and a charge
+unfoldable pub readingOf : List ℕ → ℕ → Reading
+readingOf s charge = readingBy (tableOutcome s charge) (fieldsOf s charge)

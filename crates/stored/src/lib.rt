@@ -10,7 +10,7 @@ ghost use Rattle.taskset.specs.Limits.{Reads};
 ghost use mathlib.Core.List.{_∷_};
 ghost use Rattle.stored.specs.Form.{fieldsOf};
 ghost use Rattle.stored.specs.Tests.{shortTest, lengthTest, readingOf};
-ghost use Rattle.stored.specs.Limits.{Valid, conditions};
+ghost use Rattle.stored.specs.Limits.{Valid, conditions, tableConditions};
 use refusal::Cause;
 use refusal::Outcome;
 use taskset::Fields;
@@ -32,9 +32,9 @@ fn words(s: &[u8], at: usize, n: usize) -> [u32; 16]
     entries
 }
 
-// The fields that the bytes say; bytes past the end count as 0.
-fn decode(s: &[u8]) -> Fields
-    ensures { λ r. ⌜ r ≡ fieldsOf (now (s .entry)) ⌝ }
+// The fields that the bytes say, with the charge beside them; bytes past the end count as 0.
+fn decode(s: &[u8], charge: u32) -> Fields
+    ensures { λ r. ⌜ r ≡ fieldsOf (now (s .entry)) charge ⌝ }
 {
     let n = wire::size(wire::byte(s, 0));
     let m = wire::size(wire::byte(s, 1));
@@ -45,6 +45,7 @@ fn decode(s: &[u8]) -> Fields
         m: m,
         periods: periods,
         budgets: budgets,
+        charge: charge,
     }
 }
 
@@ -76,13 +77,22 @@ fn shape_tests(s: &[u8], f: Fields) -> Outcome
     refusal::then(first, exact)
 }
 
-// Reads a stored table: its task set, or the first cause of refusal.
-pub fn read_table(table: &[u8]) -> Reading
-    ensures answer { λ r. ⌜ r ≡ readingOf (now (table .entry)) ⌝ }
-    ensures decides { λ r. ⌜ Decides (Valid (now (table .entry))) (conditions (now (table .entry))) (r .outcome) ⌝ }
+// Reads a stored table for a board with this charge: its task set, or the first cause of refusal.
+pub fn read_charged(table: &[u8], charge: u32) -> Reading
+    ensures answer { λ r. ⌜ r ≡ readingOf (now (table .entry)) charge ⌝ }
+    ensures decides { λ r. ⌜ Decides (Valid (now (table .entry)) charge) (conditions (now (table .entry)) charge) (r .outcome) ⌝ }
     ensures reads { λ r. ⌜ Reads r ⌝ }
 {
-    let f = decode(table);
+    let f = decode(table, charge);
     let shape = shape_tests(table, f);
     taskset::check_after(shape, f)
+}
+
+// Reads a stored table by itself, with charge 0: its task set, or the first cause of refusal.
+pub fn read_table(table: &[u8]) -> Reading
+    ensures answer { λ r. ⌜ r ≡ readingOf (now (table .entry)) 0 ⌝ }
+    ensures decides { λ r. ⌜ Decides (Valid (now (table .entry)) 0) (tableConditions (now (table .entry))) (r .outcome) ⌝ }
+    ensures reads { λ r. ⌜ Reads r ⌝ }
+{
+    read_charged(table, 0)
 }

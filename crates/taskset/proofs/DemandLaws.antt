@@ -11,7 +11,7 @@ use Rattle.numbers.specs.Multiples.{lcm, lcms, IsLcm}
 use Rattle.numbers.proofs.FirstLaws.{Seeking, seek-start, seek-none, looked-on, looked-found, first-clear}
 use Rattle.numbers.proofs.MultipleLaws.{lcms-is, lcms-mono}
 use Rattle.numbers.proofs.RowLaws.{getD-row, row-beyond}
-use Rattle.taskset.specs.Fields.{periodAt, budgetAt}
+use Rattle.taskset.specs.Fields.{periodAt, costAt}
 use Rattle.taskset.specs.Demands.{multipleTo, hyperperiodOf, demandOf}
 use Rattle.taskset.specs.Tests.{exceeds}
 use Rattle.taskset.specs.Reading.{multipleOf, taskSetOf}
@@ -65,29 +65,35 @@ module _ {f : Fields} (w : Within f) where
 
   module _ {k : ℕ} (below : k < f .n) where
     -- the division is exact
-    pub demand-exact : demandOf f k * periodAt f k ≡ budgetAt f k * hyperperiodOf f
+    pub demand-exact : demandOf f k * periodAt f k ≡ costAt f k * hyperperiodOf f
     unfolding demandOf
     demand-exact =
         div-mul-cancel (periodAt f k)
-        (dvd-mul-left-of-dvd (periodAt f k) (hyperperiod-is .multiple k below) (budgetAt f k))
+        (dvd-mul-left-of-dvd (periodAt f k) (hyperperiod-is .multiple k below) (costAt f k))
 
-    -- so it can be made first: j jobs, of the budget each
-    pub demand-by : {h j : ℕ} → h ≡ hyperperiodOf f → j ≡ h / periodAt f k → budgetAt f k * j ≡ demandOf f k
+    cost-least : 1 ≤ costAt f k
+    cost-least = omega (arith, w .budgets k below .0)
+
+    pub cost-small : costAt f k ≤ 10000
+    cost-small = le-trans (w .costs k below) (w .periods k below .1)
+
+    -- so it can be made first: j jobs, of the cost x each
+    pub demand-by : {x h j : ℕ} → x ≡ costAt f k → h ≡ hyperperiodOf f → j ≡ h / periodAt f k → x * j ≡ demandOf f k
     unfolding demandOf
-    demand-by e q = rw (q, e) (sym (mul-div-assoc (periodAt f k) (budgetAt f k) (hyperperiod-is .multiple k below)))
+    demand-by c e q = rw (c, q, e) (sym (mul-div-assoc (periodAt f k) (costAt f k) (hyperperiod-is .multiple k below)))
 
     pub demand-range : (1 ≤ demandOf f k) × (demandOf f k ≤ hyperperiodOf f)
     demand-range =
-        rw (← demand-by refl refl) (
-          mul-pos (w .budgets k below .0)
+        rw (← demand-by refl refl refl) (
+          mul-pos (cost-least)
               (le-div-iff-mul-le {x = 1} (w .periods k below .0) .1
               (rw one-mul (le-of-dvd (hyperperiod-is .positive) (hyperperiod-is .multiple k below)))),
-          le-trans (mul-le-mul-right (hyperperiodOf f / periodAt f k) (w .budgets k below .1))
+          le-trans (mul-le-mul-right (hyperperiodOf f / periodAt f k) (w .costs k below))
               (mul-div-le (hyperperiodOf f) (periodAt f k)),
         )
 
-    pub demand-fits : {h j : ℕ} → h ≡ hyperperiodOf f → j ≡ h / periodAt f k → budgetAt f k * j ≤ 1000000
-    demand-fits e q = rw (demand-by e q) (le-trans (demand-range .1) (w .multiple))
+    pub demand-fits : {x h j : ℕ} → x ≡ costAt f k → h ≡ hyperperiodOf f → j ≡ h / periodAt f k → x * j ≤ 1000000
+    demand-fits c e q = rw (demand-by c e q) (le-trans (demand-range .1) (w .multiple))
 
   -- the task set is exact
   pub taskSet-exact : Exact (taskSetOf f)

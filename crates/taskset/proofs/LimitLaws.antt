@@ -5,17 +5,17 @@ use mathlib.Core.Bool.{true}
 use mathlib.Core.Logic.{_↔_}
 use native.Mathlib.Omega.{arith}
 use borrow.Author.Tests.{ltb-true, lt-ltb}
-use Rattle.numbers.proofs.BoundLaws.{outside-exactly, not-outside, not-less}
+use Rattle.numbers.proofs.BoundLaws.{outside-exactly, not-outside, less-exactly, not-less}
 use Rattle.numbers.proofs.MultipleLaws.{lcms-exactly}
 use Rattle.refusal.specs.Tests.{inOrder}
-use Rattle.refusal.specs.Conditions.{None}
-use Rattle.refusal.specs.declared.Cause.the-variants.{TaskCount, CoreCount, Period, Budget, Hyperperiod}
+use Rattle.refusal.specs.Conditions.{Fails, None}
+use Rattle.refusal.specs.declared.Cause.the-variants.{TaskCount, CoreCount, Period, Budget, Hyperperiod, Charge, Cost}
 use Rattle.refusal.proofs.TestLaws.{inOrder-append}
 use Rattle.refusal.proofs.ConditionLaws.{Reports, test-only, test-at, _and_, no-more, then-reports, none-append, _also_, Tested}
-use Rattle.taskset.specs.Fields.{periodAt, budgetAt}
+use Rattle.taskset.specs.Fields.{periodAt, budgetAt, costAt}
 use Rattle.taskset.specs.Demands.{multipleTo, hyperperiodOf}
-use Rattle.taskset.specs.Tests.{badPeriod, badBudget, exceeds, sizeTests, limitTests, fieldsOutcome}
-use Rattle.taskset.specs.Limits.{Sized, Within, Exceeds, sizes, limits, fieldConditions}
+use Rattle.taskset.specs.Tests.{badPeriod, badBudget, badCost, exceeds, sizeTests, limitTests, fieldsOutcome}
+use Rattle.taskset.specs.Limits.{Sized, Within, Exceeds, sizes, chargeAbove, budgetOutside, costAbove, limits, fieldConditions}
 use Rattle.taskset.specs.declared.Fields.{Fields}
 use Rattle.taskset.proofs.DemandLaws.{multiple-bound}
 
@@ -37,10 +37,12 @@ module _ (f : Fields) where
       and no-more
 
   pub limits-reported : Reports (limits f) (inOrder (limitTests f))
-  unfolding inOrder badPeriod badBudget
+  unfolding inOrder badPeriod badBudget badCost
   limits-reported =
-      test-at Period (λ k. (refl, refl)) (λ k. outside-exactly 1 10000 (periodAt f k))
+      test-only Charge refl (less-exactly 9 (f .charge))
+      and test-at Period (λ k. (refl, refl)) (λ k. outside-exactly 1 10000 (periodAt f k))
       and test-at Budget (λ k. (refl, refl)) (λ k. outside-exactly 1 (periodAt f k) (budgetAt f k))
+      and test-at Cost (λ k. (refl, refl)) (λ k. less-exactly (periodAt f k) (costAt f k))
       and test-at Hyperperiod (λ k. (refl, refl)) exceeds-exactly
       and no-more
 
@@ -55,20 +57,24 @@ module _ (f : Fields) where
   unfolding hyperperiodOf exceeds
   limits-kept z n = record {
     sizes = z;
-    periods = λ k h. not-outside 1 10000 (periodAt f k) .0 (n .0 k h);
-    budgets = λ k h. not-outside 1 (periodAt f k) (budgetAt f k) .0 (n .1 .0 k h);
+    charge = not-less 9 (f .charge) (n .0);
+    periods = λ k h. not-outside 1 10000 (periodAt f k) .0 (n .1 .0 k h);
+    budgets = λ k h. not-outside 1 (periodAt f k) (budgetAt f k) .0 (n .1 .1 .0 k h);
+    costs = λ k h. not-less (periodAt f k) (costAt f k) (n .1 .1 .1 .0 k h);
     multiple =
         let q : f .n ≡ f .n - 1 + 1 = omega (arith, z .tasks .0) in
         let m : multipleTo f (f .n - 1 + 1) ≤ 1000000 =
-        not-less 1000000 _ (λ h. n .1 .1 .0 (f .n - 1) (omega arith) (exceeds-exactly (f .n - 1) .0 (lt-ltb 1000000 _ h))) in
+        not-less 1000000 _ (λ h. n .1 .1 .1 .1 .0 (f .n - 1) (omega arith) (exceeds-exactly (f .n - 1) .0 (lt-ltb 1000000 _ h))) in
         rw (← q) at m;
   }
 
   pub within-kept : Within f → None (limits f)
   unfolding exceeds
   within-kept w =
-      (λ k h. not-outside 1 10000 (periodAt f k) .1 (w .periods k h))
+      (λ h. omega (arith, w .charge))
+      also (λ k h. not-outside 1 10000 (periodAt f k) .1 (w .periods k h))
       also (λ k h. not-outside 1 (periodAt f k) (budgetAt f k) .1 (w .budgets k h))
+      also (λ k h g. omega (arith, w .costs k h))
       also (λ k h x. omega (arith, multiple-bound w k h, ltb-true 1000000 (multipleTo f (k + 1)) (exceeds-exactly k .1 x)))
       also tt
 
@@ -82,3 +88,14 @@ module _ (f : Fields) where
       λ w. none-append (sizes f) (limits f) .1 (sizes-kept .1 (w .sizes), within-kept w),
     );
   }
+
+-- With charge 0 a cost is the budget, number 13 never holds, and number 14 only where number 6 does.
+module _ (f : Fields) (e : f .charge ≡ 0) where
+  pub cost-uncharged : (k : ℕ) → costAt f k ≡ budgetAt f k
+  cost-uncharged k = omega arith
+
+  pub charge-uncharged : Fails (chargeAbove f)
+  charge-uncharged h = omega arith
+
+  pub costs-uncharged : Fails (budgetOutside f) → Fails (costAbove f)
+  costs-uncharged n k h g = omega (arith, not-outside 1 (periodAt f k) (budgetAt f k) .0 (n k h) .1)

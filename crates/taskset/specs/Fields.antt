@@ -1,5 +1,5 @@
 -- The fields of a table, as its task numbers are counted from 0.
-use Prim.Native.Nat.{ℕ}
+use Prim.Native.Nat.{ℕ, _+_}
 use Rattle.numbers.specs.Rows.{entry}
 use Rattle.taskset.specs.declared.Fields.{Fields}
 
@@ -9,3 +9,7 @@ periodAt f k = entry (f .periods) k
 
 abbrev pub budgetAt : Fields → ℕ → ℕ
 budgetAt f k = entry (f .budgets) k
+
+-- what a task costs its core for a period: its budget, and the charge (the field's switch cost)
+abbrev pub costAt : Fields → ℕ → ℕ
+costAt f k = budgetAt f k + f .charge

@@ -25,8 +25,10 @@ pub record Sized (f : Fields) : Type 0 where
 -- Fields within the paper's limits.
 pub record Within (f : Fields) : Type 0 where
   pub sizes : Sized f
+  pub charge : f .charge ≤ 9
   pub periods : (k : ℕ) → k < f .n → (1 ≤ periodAt f k) × (periodAt f k ≤ 10000)
   pub budgets : (k : ℕ) → k < f .n → (1 ≤ budgetAt f k) × (budgetAt f k ≤ periodAt f k)
+  pub costs : (k : ℕ) → k < f .n → budgetAt f k + f .charge ≤ periodAt f k
   pub multiple : hyperperiodOf f ≤ 1000000
 
 -- The least common multiple of the periods up to the task at k is above 1,000,000.
@@ -37,13 +39,25 @@ Exceeds f k = (h : ℕ) × IsLcm (periodAt f) (k + 1) h × (1000000 < h)
 abbrev pub sizes : Fields → List Condition
 sizes f = only 2 (Outside 1 16 (f .n)) ∷ only 3 (Outside 1 4 (f .m)) ∷ []
 
--- The refusals of the limits: numbers 5 to 7, all periods before all budgets.
+-- The refusals of the limits, each by its number: 5, 6 and 7 look at the table alone, 13 and 14 at the charge beside it.
+abbrev pub chargeAbove : Fields → Condition
+chargeAbove f = only 13 (9 < f .charge)
+
+abbrev pub periodOutside : Fields → Condition
+periodOutside f = at 5 (λ k. Outside 1 10000 (periodAt f k)) (f .n)
+
+abbrev pub budgetOutside : Fields → Condition
+budgetOutside f = at 6 (λ k. Outside 1 (periodAt f k) (budgetAt f k)) (f .n)
+
+abbrev pub costAbove : Fields → Condition
+costAbove f = at 14 (λ k. periodAt f k < budgetAt f k + f .charge) (f .n)
+
+abbrev pub multipleAbove : Fields → Condition
+multipleAbove f = at 7 (Exceeds f) (f .n)
+
+-- They are tested in this order, each over all tasks before the next.
 abbrev pub limits : Fields → List Condition
-limits f =
-    at 5 (λ k. Outside 1 10000 (periodAt f k)) (f .n)
-    ∷ at 6 (λ k. Outside 1 (periodAt f k) (budgetAt f k)) (f .n)
-    ∷ at 7 (Exceeds f) (f .n)
-    ∷ []
+limits f = chargeAbove f ∷ periodOutside f ∷ budgetOutside f ∷ costAbove f ∷ multipleAbove f ∷ []
 
 -- The refusals of fields, in the order of their tests.
 abbrev pub fieldConditions : Fields → List Condition
@@ -55,10 +69,10 @@ pub record Checked (t : TaskSet) : Type 0 where
   pub is : t ≡ taskSetOf (t .fields)
 
 -- A task set that is exact: its hyperperiod is the least common multiple of the periods,
--- each demand times its period is the budget times the hyperperiod, and entries beyond n are 0.
+-- each demand times its period is the budget plus the charge, times the hyperperiod, and entries beyond n are 0.
 pub record Exact (t : TaskSet) : Type 0 where
   pub hyperperiod : IsLcm (periodAt (t .fields)) (t .fields .n) (t .hyperperiod)
-  pub demand : (k : ℕ) → k < t .fields .n → entry (t .demands) k * periodAt (t .fields) k ≡ budgetAt (t .fields) k * t .hyperperiod
+  pub demand : (k : ℕ) → k < t .fields .n → entry (t .demands) k * periodAt (t .fields) k ≡ (budgetAt (t .fields) k + t .fields .charge) * t .hyperperiod
   pub range : (k : ℕ) → k < t .fields .n → (1 ≤ entry (t .demands) k) × (entry (t .demands) k ≤ t .hyperperiod)
   pub beyond : (k : ℕ) → t .fields .n ≤ k → entry (t .demands) k ≡ 0
 
@@ -66,6 +80,7 @@ pub record Exact (t : TaskSet) : Type 0 where
 pub record RefusedReading (r : Reading) : Type 0 where
   pub tasks : r .tasks .fields .n ≡ 0
   pub cores : r .tasks .fields .m ≡ 0
+  pub charge : r .tasks .fields .charge ≡ 0
   pub periods : r .tasks .fields .periods ≡ replicate 16 0
   pub budgets : r .tasks .fields .budgets ≡ replicate 16 0
   pub hyperperiod : r .tasks .hyperperiod ≡ 0

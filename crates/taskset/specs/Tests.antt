@@ -1,4 +1,4 @@
--- The tests of fields: numbers 2 and 3 of the sizes, numbers 5 to 7 of the limits.
+-- The tests of fields: numbers 2 and 3 of the sizes; number 13, then 5, 6, 14 and 7 of the limits.
 use Prim.Native.Nat.{ℕ, _+_}
 use mathlib.Core.List.{List, [], _∷_, _++_}
 use mathlib.Core.Bool.{Bool}
@@ -6,9 +6,9 @@ use lib.Dec.{ltb}
 use Rattle.numbers.specs.Bounds.{outside}
 use Rattle.numbers.specs.First.{first}
 use Rattle.refusal.specs.Tests.{refuseIf, refuseAt, inOrder}
-use Rattle.refusal.specs.declared.Cause.the-variants.{TaskCount, CoreCount, Period, Budget, Hyperperiod}
+use Rattle.refusal.specs.declared.Cause.the-variants.{TaskCount, CoreCount, Period, Budget, Hyperperiod, Charge, Cost}
 use Rattle.refusal.specs.declared.Outcome.{Outcome}
-use Rattle.taskset.specs.Fields.{periodAt, budgetAt}
+use Rattle.taskset.specs.Fields.{periodAt, budgetAt, costAt}
 use Rattle.taskset.specs.Demands.{multipleTo}
 use Rattle.taskset.specs.declared.Fields.{Fields}
 
@@ -19,6 +19,10 @@ tasksTest f = refuseIf (outside 1 16 (f .n)) TaskCount
 -- number 3: m is 0 or above 4
 abbrev pub coresTest : Fields → Outcome
 coresTest f = refuseIf (outside 1 4 (f .m)) CoreCount
+
+-- number 13: the charge is above 9
+abbrev pub chargeTest : Fields → Outcome
+chargeTest f = refuseIf (ltb 9 (f .charge)) Charge
 
 -- number 5: a period outside 1 to 10,000
 unfoldable pub badPeriod : Fields → ℕ → Bool
@@ -34,6 +38,13 @@ badBudget f k = outside 1 (periodAt f k) (budgetAt f k)
 abbrev pub budgetsTest : Fields → Outcome
 budgetsTest f = refuseAt (first (badBudget f) (f .n)) Budget
 
+-- number 14: a budget plus the charge above its period
+unfoldable pub badCost : Fields → ℕ → Bool
+badCost f k = ltb (periodAt f k) (costAt f k)
+
+abbrev pub costsTest : Fields → Outcome
+costsTest f = refuseAt (first (badCost f) (f .n)) Cost
+
 -- number 7: with this task's period the least common multiple exceeds 1,000,000
 unfoldable pub exceeds : Fields → ℕ → Bool
 exceeds f k = ltb 1000000 (multipleTo f (k + 1))
@@ -45,9 +56,9 @@ hyperperiodTest f = refuseAt (first (exceeds f) (f .n)) Hyperperiod
 abbrev pub sizeTests : Fields → List Outcome
 sizeTests f = tasksTest f ∷ coresTest f ∷ []
 
--- the limits: numbers 5 to 7, all periods before all budgets
+-- the limits: number 13, then 5, 6, 14 and 7, each over all tasks before the next
 abbrev pub limitTests : Fields → List Outcome
-limitTests f = periodsTest f ∷ budgetsTest f ∷ hyperperiodTest f ∷ []
+limitTests f = chargeTest f ∷ periodsTest f ∷ budgetsTest f ∷ costsTest f ∷ hyperperiodTest f ∷ []
 
 -- the sizes, then the limits
 unfoldable pub fieldsOutcome : Fields → Outcome

@@ -7,19 +7,20 @@ ghost use Rattle.refusal.specs.Tests.{_then_, inOrder};
 ghost use Rattle.refusal.specs.Conditions.{Decides};
 ghost use Rattle.refusal.specs.declared.Outcome.the-variants.{Accepted};
 ghost use Rattle.taskset.specs.Demands.{hyperperiodOf, demandOf};
-ghost use Rattle.taskset.specs.Tests.{tasksTest, coresTest, badPeriod, badBudget, periodsTest, budgetsTest, hyperperiodTest, sizeTests, limitTests};
+ghost use Rattle.taskset.specs.Tests.{tasksTest, coresTest, chargeTest, badPeriod, badBudget, badCost, periodsTest, budgetsTest, costsTest, hyperperiodTest, sizeTests, limitTests};
 ghost use Rattle.taskset.specs.Reading.{multipleOf, refusedReading, acceptedReading, readingBy, checkOf};
 ghost use Rattle.taskset.specs.Limits.{Sized, Within, fieldConditions, Reads};
 use refusal::Cause;
 use refusal::Outcome;
 
-// What a stored table says: its numbers of tasks and cores, and a period and a budget (the paper's time) for each task.
-// A reader makes the entries beyond n 0.
+// What a stored table says, and the board's charge (the field's switch cost): the numbers of tasks and cores, and a period and
+// a budget (the paper's time) for each task. A reader makes the entries beyond n 0.
 pub struct Fields {
     pub n: usize,
     pub m: usize,
     pub periods: [u32; 16],
     pub budgets: [u32; 16],
+    pub charge: u32,
 }
 
 // A task set: fields within the limits, their hyperperiod (the paper's frame H) and the exact demand (its weight) of each task.
@@ -64,6 +65,13 @@ pub fn size_tests(f: Fields) -> Outcome
     refusal::then(tasks, cores)
 }
 
+// Number 13.
+fn charge_test(f: Fields) -> Outcome
+    ensures { λ r. ⌜ r ≡ chargeTest f ⌝ }
+{
+    refusal::refuse_if(9 < f.charge, Cause::Charge)
+}
+
 // Whether the period of task `k` is outside 1 to 10,000.
 fn is_bad_period(f: Fields, k: usize) -> bool
     requires { ⌜ k < 16 ⌝ }
@@ -78,6 +86,14 @@ fn is_bad_budget(f: Fields, k: usize) -> bool
     ensures { λ r. ⌜ r ≡ badBudget f k ⌝ }
 {
     numbers::outside(1, f.periods[k] as u64, f.budgets[k] as u64)
+}
+
+// Whether the budget of task `k`, with the charge, is above its period. The sum may pass 32 bits in fields that are not tested.
+fn is_bad_cost(f: Fields, k: usize) -> bool
+    requires { ⌜ k < 16 ⌝ }
+    ensures { λ r. ⌜ r ≡ badCost f k ⌝ }
+{
+    (f.periods[k] as u64) < numbers::sum(f.budgets[k], f.charge)
 }
 
 // The first task, from 1, with a bad period; 0 if there is none.
@@ -103,6 +119,21 @@ fn first_bad_budget(f: Fields) -> usize
     let mut k = 0;
     while k < f.n {
         if is_bad_budget(f, k) {
+            return k + 1;
+        }
+        k += 1;
+    }
+    0
+}
+
+// The first task, from 1, whose budget with the charge is above its period; 0 if there is none.
+fn first_bad_cost(f: Fields) -> usize
+    requires { ⌜ f .n ≤ 16 ⌝ }
+    ensures { λ r. ⌜ r ≡ first (badCost f) (f .n) ⌝ }
+{
+    let mut k = 0;
+    while k < f.n {
+        if is_bad_cost(f, k) {
             return k + 1;
         }
         k += 1;
@@ -152,6 +183,15 @@ fn budgets_test(f: Fields) -> Outcome
     refusal::refuse_if(task != 0, Cause::Budget(task))
 }
 
+// Number 14.
+fn costs_test(f: Fields) -> Outcome
+    requires { ⌜ f .n ≤ 16 ⌝ }
+    ensures { λ r. ⌜ r ≡ costsTest f ⌝ }
+{
+    let task = first_bad_cost(f);
+    refusal::refuse_if(task != 0, Cause::Cost(task))
+}
+
 // Number 7.
 fn hyperperiod_test(f: Fields) -> Outcome
     requires { ⌜ f .n ≤ 16 ⌝ }
@@ -161,16 +201,20 @@ fn hyperperiod_test(f: Fields) -> Outcome
     refusal::refuse_if(task != 0, Cause::Hyperperiod(task))
 }
 
-// Numbers 5 to 7.
+// Number 13, then 5, 6, 14 and 7.
 fn limit_tests(f: Fields) -> Outcome
     requires { ⌜ f .n ≤ 16 ⌝ }
     ensures { λ r. ⌜ r ≡ inOrder (limitTests f) ⌝ }
 {
+    let charge = charge_test(f);
     let periods = periods_test(f);
     let budgets = budgets_test(f);
+    let costs = costs_test(f);
     let hyperperiod = hyperperiod_test(f);
-    let later = refusal::then(budgets, hyperperiod);
-    refusal::then(periods, later)
+    let from_costs = refusal::then(costs, hyperperiod);
+    let from_budgets = refusal::then(budgets, from_costs);
+    let from_periods = refusal::then(periods, from_budgets);
+    refusal::then(charge, from_periods)
 }
 
 // How many jobs a task of this period releases in the hyperperiod `h`.
@@ -186,7 +230,7 @@ fn demand(f: Fields, h: u32, k: usize) -> u32
     requires { ⌜ Within f × (h ≡ hyperperiodOf f) × (k < f .n) ⌝ }
     ensures { λ r. ⌜ r ≡ demandOf f k ⌝ }
 {
-    f.budgets[k] * jobs(h, f.periods[k])
+    numbers::sum(f.budgets[k], f.charge) as u32 * jobs(h, f.periods[k])
 }
 
 // The demand of each task in the hyperperiod `h`, and zeros up to sixteen.
@@ -213,6 +257,7 @@ fn refused(cause: Cause) -> Reading
         m: 0,
         periods: [0; 16],
         budgets: [0; 16],
+        charge: 0,
     };
     let tasks = TaskSet {
         fields: fields,

@@ -1,36 +1,36 @@
-"""Code 3, a fresh core and its ticks. Blocks: table, placement, core number, count of ticks, then
-the sixteen requests of each tick. The first line's values: the record, slot by slot. Of an accepted
-core follows a line a tick: number, place, run, late."""
+"""Code 3, a fresh core and its ticks. Blocks: table, charge, placement, core number, count of
+ticks, then the sixteen requests of each tick. The first line's values: the record, its charge
+first, then slot by slot. Of an accepted core follows a line a tick: number, place, run, late."""
 
 from frame import number, numbers
 from plans import plan
-from samples import (LARGEST_WORD, divisors, entries, paper_rows, random_table, sets_of_faults,
-                     shapes, table_of)
-from tables import Refusal, read_table
+from samples import (LARGEST_WORD, charges, damaged_board, divisors, entries, in_turn, paper_rows,
+                     random_charge, random_table, sets_of_faults, shapes, stretched, table_of)
+from tables import Refusal, read_board
 from ticks import fresh_core, run_core
 
 CODE = 3
-HEAD, FREE = 4, {0, 1}
+HEAD, FREE = 5, {0, 2}
 
 FULL = [LARGEST_WORD] * 16
 NOTHING = [0] * 16
 
 
-def contents(table, placement, core, all_requests):
-    return [table, bytes(placement), bytes([core]), number(len(all_requests)),
+def contents(table, charge, placement, core, all_requests):
+    return [table, number(charge), bytes(placement), bytes([core]), number(len(all_requests)),
             *map(numbers, all_requests)]
 
 
-def lines(table, placement, core, all_requests):
-    record = fresh_core(table, placement, core)
+def lines(table, charge, placement, core, all_requests):
+    record = fresh_core(table, charge, placement, core)
     if isinstance(record, Refusal):
-        return [[*record] + [0] * 64]
-    fresh = [0, 0, *sum(map(list, record), [])]
-    return [fresh, *run_core(table, placement, core, all_requests)]
+        return [[*record] + [0] * 65]
+    fresh = [0, 0, record.charge, *sum(map(list, record.slots), [])]
+    return [fresh, *run_core(table, charge, placement, core, all_requests)]
 
 
 def edges():
-    return paper_rows_run() + fresh_cores() + short_runs()
+    return paper_rows_run() + fresh_cores() + charged_cores() + short_runs() + charged_runs()
 
 
 def paper_rows_run():
@@ -38,9 +38,9 @@ def paper_rows_run():
     row_c = table_of(1, [2, 3, 6], [1, 1, 1])
     asks_nothing = [0] + FULL[1:]
     return [
-        (row_c, [1, 1, 1], 1, [FULL] * 6),
-        (row_c, [1, 1, 1], 1, [FULL, FULL, asks_nothing, FULL, FULL, FULL]),
-        (table_of(1, [3], [2]), [1], 1, [[1] + FULL[1:]] * 3),
+        (row_c, 0, [1, 1, 1], 1, [FULL] * 6),
+        (row_c, 0, [1, 1, 1], 1, [FULL, FULL, asks_nothing, FULL, FULL, FULL]),
+        (table_of(1, [3], [2]), 0, [1], 1, [[1] + FULL[1:]] * 3),
     ]
 
 
@@ -75,13 +75,45 @@ def fresh_cores():
         (two, [3, 1, 2], 1), (two, [3, 1, 2, 2, 0], 1), (two, [1, 1, 2, 3], 0),
         (two, [1, 1, 1, 3], 1), (two, [1, 1, 2], 3), (two, [3, 1, 2, 2], 3),
     ]
-    cases = [(table, placement, core, [FULL] * 3) for table, placement, core in placements]
+    cases = [(table, 0, placement, core, [FULL] * 3) for table, placement, core in placements]
+    # The same loads with a charge, every third of them.
+    cases += [(stretched(table, charge), charge, placement, core, [FULL] * 3)
+              for (table, placement, core), charge in in_turn(placements[::3], range(1, 10))
+              if table not in (above, below)]
 
-    # 1 to 7 come before 9, 10 and 11.
-    for table in paper_rows()[-4:] + shapes()[::6] + entries()[::8] + sets_of_faults()[::4]:
-        cases.append((table, [], 0, []))
-        cases.append((table, [1] * 3, 1, []))
-    cases += [(table, [1] * 2, 1, []) for table in paper_rows()]
+    # 1 to 7, 13 and 14 come before 9, 10 and 11.
+    for table in paper_rows()[-4:] + shapes()[::6] + entries()[::8]:
+        cases.append((table, 0, [], 0, []))
+        cases.append((table, 0, [1] * 3, 1, []))
+    for table, charge in sets_of_faults(most=2):
+        cases.append((table, charge, [3], 0, []))
+    cases += [(table, 0, [1] * 2, 1, []) for table in paper_rows()]
+    return cases
+
+
+def charged_cores():
+    """A fresh core's refusals by the charge, and loads that are only just accepted with it."""
+    cases = [(table, charge, [1] * table[0], 1, []) for table, charge in charges()[::2]]
+    # 13 and 14 before a placement that is too short, an entry above m, a core that there is not,
+    # and a load above one.
+    steep = table_of(2, [20] * 3, [9, 9, 12])
+    for charge in (1, 2, 9, 10, 11, 256, LARGEST_WORD):
+        cases += [(steep, charge, placement, core, [FULL])
+                  for placement, core in (([1, 1, 2], 1), ([1, 1], 1), ([1, 3, 2], 1),
+                                          ([1, 1, 2], 3), ([1, 1, 1], 1))]
+    # Full with the charge on one core, above one with it on the other; without it both would do.
+    cases += [(table_of(2, [20] * 4, [9, 9, 9, 10]), 1, [1, 1, 2, 2], core, [FULL] * 2)
+              for core in (1, 2)]
+    # One part in 999,999 above, and as much below.
+    for charge in (1, 9):
+        cases += [(table_of(2, [999, 1001], [first - charge, second - charge]), charge, [2, 2], 2,
+                   [FULL] * 2) for first, second in ((500, 500), (499, 501))]
+    # Another core's load does not matter; the record of an empty core has the charge too.
+    three = table_of(2, [20] * 3, [9, 9, 10])
+    cases += [(three, charge, placement, 1, [FULL, NOTHING])
+              for charge in (0, 1, 9) for placement in ([0, 0, 0], [2, 2, 2], [2, 1, 2])]
+    cases.append((table_of(4, [10_000], [9_991]), 9, [4], 4, [FULL] * 2))
+    cases.append((table_of(1, [10], [1]), 9, [1], 1, [[1] * 16] * 12))
     return cases
 
 
@@ -93,52 +125,84 @@ def short_runs():
     one = table_of(1, [1], [1])
     turns = [FULL, NOTHING] * 6
     return [
-        (seven, [1] * 7, 1, [FULL] * 130),
-        (sixteen, [1] * 16, 1, [FULL] * 40),
-        (sixteen, [1, 2] * 8, 2, [[1] * 16] * 33),
-        (mixed, [1] * 3, 1, [FULL] * 37),
-        (mixed, [1] * 3, 1, [NOTHING] * 13),
-        (mixed, [1] * 3, 1, turns),
-        (mixed, [1, 0, 1], 1, turns),
-        (one, [1], 1, turns),
-        (one, [1], 1, []),
-        (one, [0], 1, turns),
+        (seven, 0, [1] * 7, 1, [FULL] * 130),
+        (sixteen, 0, [1] * 16, 1, [FULL] * 40),
+        (sixteen, 0, [1, 2] * 8, 2, [[1] * 16] * 33),
+        (mixed, 0, [1] * 3, 1, [FULL] * 37),
+        (mixed, 0, [1] * 3, 1, [NOTHING] * 13),
+        (mixed, 0, [1] * 3, 1, turns),
+        (mixed, 0, [1, 0, 1], 1, turns),
+        (one, 0, [1], 1, turns),
+        (one, 0, [1], 1, []),
+        (one, 0, [0], 1, turns),
         # the longest period; nothing is released again
-        (table_of(1, [10_000, 9_999], [10, 3]), [1, 1], 1, [[2] * 16] * 6),
+        (table_of(1, [10_000, 9_999], [10, 3]), 0, [1, 1], 1, [[2] * 16] * 6),
+    ]
+
+
+def charged_runs():
+    """Cores that are full with the charge, or nearly so; tasks that ask for nothing, for one tick,
+    for their time and for more."""
+    six = table_of(1, [4, 8, 16, 32, 64, 64], [1] * 6)
+    two = table_of(1, [4, 8], [1, 3])
+    heavy = table_of(2, [20, 40, 40], [1, 1, 1])
+    least, turns = [1] * 16, [FULL, NOTHING, [1] * 16] * 9
+    return [
+        (six, 1, [1] * 6, 1, [FULL] * 66),
+        (six, 1, [1] * 6, 1, turns),
+        (two, 1, [1, 1], 1, [FULL] * 17),
+        (two, 1, [1, 1], 1, [least] * 8),
+        (two, 1, [1, 1], 1, [[0] + FULL[1:]] * 9),
+        (two, 1, [1, 1], 1, [[LARGEST_WORD, 0] + FULL[2:]] * 9),
+        (two, 1, [1, 1], 1, turns),
+        (two, 0, [1, 1], 1, turns),
+        (heavy, 9, [1, 1, 1], 1, [FULL] * 41),
+        (heavy, 9, [1, 1, 1], 1, [NOTHING] * 3),
+        (heavy, 9, [2, 0, 2], 2, [least] * 21),
+        (table_of(1, [2], [1]), 1, [1], 1, [FULL, FULL, NOTHING, FULL, FULL]),
+        (table_of(1, [30], [5]), 9, [1], 1, [[5] * 16] * 31),
+        (table_of(1, [30], [5]), 9, [1], 1, [[4] * 16] * 15),
+        (table_of(1, [30], [5]), 9, [1], 1, [[LARGEST_WORD - 8] * 16] * 16),
     ]
 
 
 def draw(rng):
     """A core that is accepted: mostly one with a short hyperperiod, run for several of these."""
     if rng.randrange(8) == 0:
-        table = random_table(rng, rng.randint(1, 16), rng.randint(1, 4))
-        placement, core, ticks = planned(table), 1, 8
+        charge = random_charge(rng)
+        table = random_table(rng, rng.randint(1, 16), rng.randint(1, 4), charge)
+        placement, core, ticks = planned(table, charge), 1, 8
     else:
-        table, placement, core = full_core(rng)
-        ticks = rng.randint(1, 4) * read_table(table).hyperperiod + rng.randint(0, 5)
-    return table, placement, core, random_requests(rng, read_table(table), min(ticks, 75))
+        charge = rng.choice([0, 0, 1, 1, 2, 3, 4, rng.randint(5, 9)])
+        table, placement, core = full_core(rng, charge)
+        ticks = rng.randint(1, 4) * read_board(table, charge).hyperperiod + rng.randint(0, 5)
+    requests = random_requests(rng, read_board(table, charge), min(ticks, 75))
+    return table, charge, placement, core, requests
 
 
-def planned(table):
+def planned(table, charge):
     """The placement that the planner stores within a few steps."""
-    return plan(table, 100).placement[:table[0]]
+    return plan(table, charge, 100).placement[:table[0]]
 
 
-def full_core(rng):
+def full_core(rng, charge):
     """Tasks are drawn for one core until it is full or nearly so, and mixed with others."""
-    hyperperiod = rng.choice([4, 6, 8, 10, 12, 12, 16, 18, 20, 24])
+    if charge == 0:
+        hyperperiod = rng.choice([4, 6, 8, 10, 12, 12, 16, 18, 20, 24])
+    else:
+        hyperperiod = rng.choice([12, 16, 18, 20, 24, 24, 30, 36, 40, 48, 60])
     m = rng.randint(1, 4)
     core = rng.randint(1, m)
     periods, budgets, placement = [], [], []
     room = hyperperiod
     for _ in range(rng.randint(1, 16)):
-        period = rng.choice(divisors(hyperperiod)[1:])
-        most = room * period // hyperperiod
+        period = rng.choice([p for p in divisors(hyperperiod)[1:] if p > charge])
+        most = room * period // hyperperiod - charge
         budget = rng.randint(1, max(1, most))
         chosen = core if most >= 1 and rng.random() < 0.85 else rng.choice(
             [other for other in range(m + 1) if other != core])
         if chosen == core:
-            room -= budget * hyperperiod // period
+            room -= (budget + charge) * hyperperiod // period
         periods.append(period)
         budgets.append(budget)
         placement.append(chosen)
@@ -168,4 +232,18 @@ def random_requests(rng, tasks, ticks):
     return [[request(k, now) for k in range(16)] for now in range(ticks)]
 
 
-DRAWS = [(draw, 260, 300)]
+def draw_any(rng):
+    """A core of which anything may be refused, and at most one tick of it."""
+    charge = random_charge(rng)
+    n, m = rng.randint(1, 8), rng.randint(1, 4)
+    table, charge = damaged_board(rng, random_table(rng, n, m, charge), charge)
+    placement = [rng.randint(0, m) for _ in range(n)]
+    if rng.randrange(8) == 0:
+        placement[rng.randrange(n)] = m + 1
+    if rng.randrange(8) == 0:
+        placement = (placement + [1])[:rng.randint(0, n + 1)]
+    core = rng.randint(1, m) if rng.randrange(8) > 0 else rng.choice([0, m + 1, 255])
+    return table, charge, placement, core, rng.choice([[], [FULL]])
+
+
+DRAWS = [(draw, 170, 300), (draw_any, 120, 600)]

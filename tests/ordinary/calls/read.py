@@ -26,7 +26,8 @@ def sixteen(row):
 
 
 def edges():
-    return [(table,) for table in paper_rows() + shapes() + entries() + sets_of_faults()
+    faulty = [table for table, _ in sets_of_faults(range(2, 8))]
+    return [(table,) for table in paper_rows() + shapes() + entries() + faulty
             + hyperperiods() + planning_orders()]
 
 

@@ -8,14 +8,14 @@ use Rattle.bench_entry.proofs.bench_tick.Statement.{statement}
 use Rattle.bench_entry.proofs.bench_tick.Tie as tie
 
 returns : tie.Need-returns
-returns c = bench-many _ _ (c .before .size .ensures .0 ∙ c .before .before .byte .ensures) (c .if1 .taken)
+returns c = bench-many _ _ _ (c .before .size .ensures .0 ∙ c .before .before .byte .ensures) (c .if1 .taken)
 
 slice-aggregate-fresh : tie.Need-slice-aggregate-fresh
 slice-aggregate-fresh c = sym (length-take-le _ _ (omega arith))
 
 returns-2 : tie.Need-returns-2
 returns-2 c =
-    bench-few _ _ _ (c .before .before .before .before .before .size .ensures .0 ∙ c .before .before .before .before .before .before .byte .ensures) (c .before .before .before .before .if1 .left) (c .before .before .fresh .ensures .0) (c .sum-of-tasks .ensures)
+    bench-few _ _ _ _ (c .before .before .before .before .before .size .ensures .0 ∙ c .before .before .before .before .before .before .byte .ensures) (c .before .before .before .before .if1 .left) (c .before .before .fresh .ensures .0) (c .sum-of-tasks .ensures)
 
 pub bench-tick-spec : {M : Type 1} → statement M
 bench-tick-spec =

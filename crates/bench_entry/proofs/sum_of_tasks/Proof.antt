@@ -5,7 +5,7 @@ use Rattle.bench_entry.proofs.sum_of_tasks.Statement.{statement}
 use Rattle.bench_entry.proofs.sum_of_tasks.Tie as tie
 
 abbrev Inv-loop : tie.InvT-loop
-Inv-loop ticks requests now₀ sum₀ left₀ now sum left = Summing (now₀ .slots) ticks requests (now .slots) sum left
+Inv-loop ticks requests now₀ sum₀ left₀ now sum left = Summing now₀ ticks requests now sum left
 
 abbrev μ-loop : tie.MeasureT-loop
 μ-loop ticks requests now₀ sum₀ left₀ now sum left = left

@@ -6,14 +6,14 @@ use Rattle.ceiling.proofs.step_ceiling.Tie as tie
 
 sum-of-products-requires : tie.Need-sum-of-products-requires
 sum-of-products-requires c κs =
-    let sized = c .before .before .read-table .ensures .1 .1 .checked (cc) .within .sizes in
+    let sized = c .before .before .read-charged .ensures .1 .1 .checked (cc) .within .sizes in
     (sized .tasks .1, sized .cores .1)
 
 returns : tie.Need-returns
-returns c = ceiling-promised _ (ceiling-of-refused _ (c .before .before .before .read-table .ensures .0) (cc))
+returns c = ceiling-promised _ _ (ceiling-of-refused _ _ (c .before .before .before .read-charged .ensures .0) (cc))
 
 returns-2 : tie.Need-returns-2
-returns-2 c = ceiling-promised _ (ceiling-of-accepted _ (c .before .before .before .read-table .ensures .0) (cc) (c .sum-of-products .ensures))
+returns-2 c = ceiling-promised _ _ (ceiling-of-accepted _ _ (c .before .before .before .read-charged .ensures .0) (cc) (c .sum-of-products .ensures))
 
 pub step-ceiling-spec : {M : Type 1} → statement M
 step-ceiling-spec =

@@ -5,15 +5,15 @@ use Rattle.firmware.proofs.millplan_plan.Statement.{statement}
 use Rattle.firmware.proofs.millplan_plan.Tie as tie
 
 plan-tasks-requires : tie.Need-plan-tasks-requires
-plan-tasks-requires c κs = c .before .before .before .before .before .read-table .ensures .1 .1 .checked (read-well _ _ (c .before .before .then .ensures) (cc))
+plan-tasks-requires c κs = c .before .before .before .before .before .read-charged .ensures .1 .1 .checked (read-well _ _ (c .before .before .then .ensures) (cc))
 
 returns : tie.Need-returns
 returns c =
-    call-refused _ _ _ (c .before .before .before .before .before .before .before .read-table .ensures .0) (c .before .before .before .before .before .buffer-test .ensures) (c .before .before .before .before .then .ensures) (c .before .before .outcome .given .1) (c .code .ensures)
+    call-refused _ _ _ (c .before .before .before .before .before .before .before .read-charged .ensures .0) (c .before .before .before .before .before .buffer-test .ensures) (c .before .before .before .before .then .ensures) (c .before .before .outcome .given .1) (c .code .ensures)
 
 returns-2 : tie.Need-returns-2
 returns-2 c =
-    call-planned _ _ _ (c .before .before .before .before .before .before .before .before .before .before .before .before .read-table .ensures .0) (c .before .before .before .before .before .before .before .before .before .before .buffer-test .ensures) (c .before .before .before .before .before .before .before .before .before .then .ensures) (cc) (c .before .before .before .before .before .before .plan-tasks .ensures) (search needs) (c .code2 .ensures) (c .before .before .before .write-front .ensures)
+    call-planned _ _ _ (c .before .before .before .before .before .before .before .before .before .before .before .before .read-charged .ensures .0) (c .before .before .before .before .before .before .before .before .before .before .buffer-test .ensures) (c .before .before .before .before .before .before .before .before .before .then .ensures) (cc) (c .before .before .before .before .before .before .plan-tasks .ensures) (search needs) (c .code2 .ensures) (c .before .before .before .write-front .ensures)
 
 pub millplan-plan-spec : {M : Type 1} → statement M
 millplan-plan-spec =

@@ -8,10 +8,10 @@ use Rattle.runner.proofs.first_wrong.Statement.{statement}
 use Rattle.runner.proofs.first_wrong.Tie as tie
 
 abbrev Inv-loop : tie.InvT-loop
-Inv-loop slots i₀ i = Seeking (slotTest (cannotBe 0) slots) 16 i
+Inv-loop charge slots i₀ i = Seeking (slotTest (cannotBe charge) slots) 16 i
 
 abbrev μ-loop : tie.MeasureT-loop
-μ-loop slots i₀ i = 16 - i
+μ-loop charge slots i₀ i = 16 - i
 
 pub first-wrong-spec : {M : Type 1} → statement M
 unfolding firstSlot

@@ -23,7 +23,7 @@ returns c =
     let size : length (start .args .core .slots) ≡ 16 = search (needs, good) in
     let swept = c .before .before .sweep .ensures in
     let next = c .after-run .ensures ∙ ap (each (runSlot _)) (swept-slots size swept) ∙ run-last _ _ in
-    (stepped-by 0 _ _ _ _ _ (swept-late size swept) (swept-run size swept) next, refl)
+    (stepped-by _ _ _ _ _ _ (swept-late size swept) (swept-run size swept) next, refl)
 
 pub stepped-spec : {M : Type 1} → statement M
 stepped-spec = tie.close (tie.spec (λ c κs. search needs) after-run-requires returns)

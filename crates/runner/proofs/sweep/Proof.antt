@@ -4,16 +4,22 @@ use mathlib.Core.Path.{_≡_, _∙_}
 use mathlib.Core.Logic.{⊎-elim}
 use lib.ListN.{set}
 use Rattle.runner.specs.Sweep.{choiceSoFar, AfterSlots}
-use Rattle.runner.proofs.SweepLaws.{pass-start, pass-empty, pass-due, pass-kept, pass-done}
+use Rattle.runner.proofs.SweepLaws.{pass-start, pass-empty, pass-cost, pass-due, pass-kept, pass-done}
 use borrow.Author.Needs.{needs}
 use Rattle.runner.proofs.sweep.Statement.{statement}
 use Rattle.runner.proofs.sweep.Tie as tie
 
 abbrev Inv-loop : tie.InvT-loop
-Inv-loop requests next₀ late₀ choice₀ done₀ next late choice done = AfterSlots 0 requests next₀ done next late choice
+Inv-loop charge requests next₀ late₀ choice₀ done₀ next late choice done = AfterSlots charge requests next₀ done next late choice
 
 abbrev μ-loop : tie.MeasureT-loop
-μ-loop requests next₀ late₀ choice₀ done₀ next late choice done = 16 - done
+μ-loop charge requests next₀ late₀ choice₀ done₀ next late choice done = 16 - done
+
+released-requires : tie.Need-released-requires Inv-loop μ-loop
+released-requires c κs =
+    let first = c .before .before .before in
+    let turn = first .before .before .before in
+    pass-cost (search needs) (turn .before .loop .inv) (turn .loop-test .taken) (turn .before .before .pre) _ (first .if1 .taken)
 
 loop-again : tie.Need-loop-again Inv-loop μ-loop
 loop-again c =
@@ -36,6 +42,6 @@ returns c = pass-done (search needs) (c .before .loop .inv) (c .loop-test .left)
 pub sweep-spec : {M : Type 1} → statement M
 sweep-spec =
     tie.close (tie.spec Inv-loop μ-loop (λ c. pass-start _ _ _ (search needs)) (λ c. search needs) (λ c. search needs)
-    (λ c. search needs) (λ c κs. search needs) (λ c. search needs) (λ c. search needs) (λ c κs. search needs)
+    (λ c. search needs) (λ c κs. search needs) (λ c. search needs) (λ c. search needs) released-requires
     (λ c. search needs) (λ c κs. search needs) (λ c κs. search needs) (λ c. search needs) (λ c. search needs)
     (λ c. search needs) (λ c. search needs) loop-again returns)

@@ -1,16 +1,11 @@
--- The bytes are decoded, their shape is tested, then the limits of the fields.
-use Rattle.stored.proofs.TableLaws.{shape-says, read-answer, read-decides, read-reads}
+-- A board without a charge: numbers 13 and 14 need not be named.
+use Rattle.stored.proofs.TableLaws.{read-alone}
 use borrow.Author.Needs.{needs}
 use Rattle.stored.proofs.read_table.Statement.{statement}
 use Rattle.stored.proofs.read_table.Tie as tie
 
-check-after-requires : tie.Need-check-after-requires
-check-after-requires c κs = shape-says _ (c .before .decode .ensures) (c .shape-tests .ensures)
-
 returns : tie.Need-returns
-returns c =
-    let e = read-answer _ (c .before .before .decode .ensures) (c .before .shape-tests .ensures) (c .check-after .ensures) in
-    (e, (read-decides _ e, read-reads _ e))
+returns c = let e = c .read-charged .ensures .0 in (e, (read-alone _ e, c .read-charged .ensures .1 .1))
 
 pub read-table-spec : {M : Type 1} → statement M
-read-table-spec = tie.close (tie.spec (λ c κs. search needs) (λ c κs. search needs) check-after-requires returns)
+read-table-spec = tie.close (tie.spec (λ c κs. search needs) returns)
