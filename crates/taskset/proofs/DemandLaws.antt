@@ -74,8 +74,8 @@ module _ {f : Fields} (w : Within f) where
     cost-least : 1 ≤ costAt f k
     cost-least = omega (arith, w .budgets k below .0)
 
-    pub cost-small : costAt f k ≤ 10000
-    cost-small = le-trans (w .costs k below) (w .periods k below .1)
+    pub cost-small : {x : ℕ} → x ≡ costAt f k → x ≤ 10000
+    cost-small c = rw c (le-trans (w .costs k below) (w .periods k below .1))
 
     -- so it can be made first: j jobs, of the cost x each
     pub demand-by : {x h j : ℕ} → x ≡ costAt f k → h ≡ hyperperiodOf f → j ≡ h / periodAt f k → x * j ≡ demandOf f k

@@ -70,6 +70,10 @@ def near_charge(charge):
         # time plus charge and owed are small again in 32 bits
         Slot(10, LARGEST_WORD - charge + 1, 0, 0), Slot(10, LARGEST_WORD, 0, 0),
         Slot(10, LARGEST_WORD, 0, LARGEST_WORD),
+        # times whose low bits alone would do
+        Slot(30, 257, 0, 0), Slot(30, 65_541, 0, 0), Slot(30, 65_541, 7, 5),
+        Slot(10000, 131_073, 3, 0), Slot(30, 2**31 + 5, 0, 0),
+        Slot(30, LARGEST_WORD - 65_530, 7, 5 + charge),
         # an empty slot is all zeros, whatever the charge; a time of 0 is none
         EMPTY, Slot(0, 0, 0, charge), Slot(0, 0, 0, 1), Slot(0, charge, 0, 0),
         Slot(10, 0, 0, 0), Slot(10, 0, 0, charge),

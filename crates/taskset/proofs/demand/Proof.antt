@@ -1,13 +1,12 @@
 -- The exact division is made first, so that the product fits.
 use mir.Facts.{fits-below}
-use mathlib.Core.Path.{sym}
 use Rattle.taskset.proofs.DemandLaws.{cost-small, demand-by, demand-fits}
 use borrow.Author.Needs.{needs}
 use Rattle.taskset.proofs.demand.Statement.{statement}
 use Rattle.taskset.proofs.demand.Tie as tie
 
 cast-result : tie.Need-cast-result
-cast-result c = let p = c .before .before .pre in fits-below tt (rw (sym (c .sum .ensures)) at (cost-small (p .0) (p .2)))
+cast-result c = let p = c .before .before .pre in fits-below tt (cost-small (p .0) (p .2) (c .sum .ensures))
 
 jobs-requires : tie.Need-jobs-requires
 jobs-requires c κs = let p = c .before .before .before .pre in (p .0 .periods _ (p .2) .0, rw (p .1) (p .0 .multiple))
