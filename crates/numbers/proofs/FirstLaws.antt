@@ -1,6 +1,6 @@
 -- Laws of the first index at which a test holds, and the steps of a loop that looks for it.
 use Prim.Native.Nat.{ℕ, zero, suc, _+_, _-_, _≤_, _<_}
-use mathlib.Core.Path.{_≡_, sym, _∙_, ap}
+use mathlib.Core.Path.{_≡_, refl, sym, _∙_, ap}
 use mathlib.Core.Bool.{Bool, true, false, cond, not, _&&_, true≢false}
 use mathlib.Core.Logic.{_≢_, ⊎-elim, by-cases}
 use lib.Dec.{eqb}
@@ -60,6 +60,16 @@ from-least p i (suc m) k t h g =
     (λ q. let ne : i ≢ k = λ d. true≢false (sym t ∙ rw (← d) q) in
     rw q (from-least p (i + 1) m k t (omega arith) (omega arith)))
     (true-or-false (p i))
+
+-- equal tests find the same
+from-cong : (p q : ℕ → Bool) (i k : ℕ) → ((j : ℕ) → j < i + k → p j ≡ q j) → firstFrom p i k ≡ firstFrom q i k
+unfolding firstFrom
+from-cong p q i zero h = refl
+from-cong p q i (suc k) h = rw (h i (omega arith), from-cong p q (i + 1) k (λ j l. h j (omega arith)))
+
+pub first-cong : (p q : ℕ → Bool) (n : ℕ) → ((j : ℕ) → j < n → p j ≡ q j) → first p n ≡ first q n
+unfolding first
+first-cong p q n h = from-cong p q 0 n (λ j l. h j (omega arith))
 
 -- there is one first index at most
 pub isFirst-unique : {P : ℕ → Type 0} {n j k : ℕ} → IsFirst P n j → IsFirst P n k → j ≡ k

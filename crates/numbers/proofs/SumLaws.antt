@@ -58,6 +58,16 @@ unfolding sumTo
 sumTo-front f zero = refl
 sumTo-front f (suc n) = omega (arith, sumTo-front f n)
 
+-- n terms of at most 1 that make n are all 1
+pub sumTo-full : (f : ℕ → ℕ) (n : ℕ) → ((k : ℕ) → k < n → f k ≤ 1) → sumTo f n ≡ n → (k : ℕ) → k < n → f k ≡ 1
+unfolding sumTo
+sumTo-full f zero h e k l = absurd (omega arith)
+sumTo-full f (suc n) h e k l =
+    let rest = sumTo-bound f n 1 (λ j i. h j (omega arith)) in
+    by-cases (ℕ-discrete k n)
+    (λ (q : k ≡ n). rw q (omega (arith, h n (omega arith))))
+    (λ q. sumTo-full f n (λ j i. h j (omega arith)) (omega (arith, h n (omega arith))) k (omega arith))
+
 -- terms of 0 from n on add nothing
 pub sumTo-above : (f : ℕ → ℕ) (n w : ℕ) → ((k : ℕ) → n ≤ k → f k ≡ 0) → sumTo f (n + w) ≡ sumTo f n
 unfolding sumTo
@@ -83,6 +93,11 @@ sumTo-only x f (suc n) =
 -- ---- products
 
 -- products of smaller factors
+pub productTo-cong : (f g : ℕ → ℕ) (n : ℕ) → ((k : ℕ) → k < n → f k ≡ g k) → productTo f n ≡ productTo g n
+unfolding productTo
+productTo-cong f g zero h = refl
+productTo-cong f g (suc n) h = rw (h n (omega arith), productTo-cong f g n (λ k i. h k (omega arith)))
+
 pub productTo-mono : (f g : ℕ → ℕ) (n : ℕ) → ((k : ℕ) → k < n → f k ≤ g k) → productTo f n ≤ productTo g n
 unfolding productTo
 productTo-mono f g zero h = omega arith
