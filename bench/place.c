@@ -5,7 +5,8 @@
 #include "harness.h"
 #include <alloca.h>
 
-uint32_t bench_search(const uint8_t *table, size_t table_len, uint32_t charge, uint32_t limit);
+uint32_t bench_search(const uint8_t *table, size_t table_len, uint32_t charge, const uint8_t *cores,
+                      size_t cores_len, uint32_t limit);
 
 enum { PLACES = 256, APART = 16, LIMIT = 200000 };
 
@@ -13,13 +14,16 @@ enum { PLACES = 256, APART = 16, LIMIT = 200000 };
 static const uint32_t times[TASKS] = {2989, 2912, 2694, 2693, 2565, 2556, 2519, 2347,
                                       2210, 2194, 2040, 2018, 2003, 1997, 1886, 1879};
 
+/* Each may use every core. */
+static const uint8_t cores[TASKS] = {7, 7, 7, 7, 7, 7, 7, 7, 7, 7, 7, 7, 7, 7, 7, 7};
+
 /* The search with the stack moved down by so many bytes, in seconds. */
 static __attribute__((noinline)) double at(size_t down, const uint8_t *table, size_t length)
 {
     volatile uint8_t *below = alloca(down + APART);
     below[0] = 0;
     const double start = now();
-    bench_search(table, length, 0, LIMIT);
+    bench_search(table, length, 0, cores, sizeof cores, LIMIT);
     return now() - start;
 }
 

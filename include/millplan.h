@@ -28,6 +28,7 @@ enum {
 };
 
 /* Plans a table of n tasks on m cores, on a board without a switch charge: a task weighs its time.
+ * Every task may use every core.
  *
  * table      byte 0: n; byte 1: m; then n periods and n times in ticks of 100 microseconds,
  *            four bytes each, lowest byte first. Only read; may be NULL if it has no bytes.

@@ -15,18 +15,18 @@ from ticks import EMPTY, Record, Slot
 LONGEST = 1024
 FULL = [LARGEST_WORD] * 16
 ROW_C = table_of(1, [2, 3, 6], [1, 1, 1])
-FOUR_EIGHT = table_of(1, [4, 8], [1, 3])
+FOUR_EIGHT = table_of(2, [4, 8], [1, 3])
 
 # A small input of each call, of a fresh core one accepted, one refused and one without a tick.
 SMALL = [
     (read, (ROW_C,)),
-    (plan, (table_of(1, [10] * 3, [7, 6, 4]), 1, 6)),
-    (core, (FOUR_EIGHT, 1, [1, 1], 1, [FULL] * 3)),
-    (core, (FOUR_EIGHT, 1, [1, 1], 2, [FULL] * 2)),
-    (core, (FOUR_EIGHT, 1, [1, 0], 1, [])),
+    (plan, (table_of(2, [10] * 3, [7, 6, 4]), 1, bytes([1, 1, 2]), 6)),
+    (core, (FOUR_EIGHT, 1, bytes([1, 3]), [1, 1], 1, [FULL] * 3)),
+    (core, (FOUR_EIGHT, 1, bytes([1, 2]), [1, 1], 2, [FULL] * 2)),
+    (core, (FOUR_EIGHT, 1, bytes([1, 2]), [1, 0], 1, [])),
     (tick, (Record(2, [Slot(4, 2, 0, 1)] + [EMPTY] * 15), FULL)),
-    (quick, (table_of(2, [10] * 6, [5, 4, 3, 3, 3, 2]), 0)),
-    (ceiling, (table_of(4, [10] * 5, [6] * 5), 3)),
+    (quick, (table_of(2, [10] * 6, [5, 4, 3, 3, 3, 2]), 0, bytes([3, 2, 1, 3, 3, 3]))),
+    (ceiling, (table_of(4, [10] * 5, [6] * 5), 3, bytes([15, 7, 3, 1, 8]))),
 ]
 GOOD = frame.case(read.CODE, [ROW_C])
 
@@ -69,7 +69,7 @@ def unknown_codes():
 
 def wrong_lengths():
     """Each block of each small input with another length, followed by a case that is not reached;
-    and the longest block that a table or placement may have."""
+    and the longest block that a table, a row of core bytes or a placement may have."""
     for call, given in SMALL:
         contents = call.contents(*given)
         for k, content in enumerate(contents):
@@ -79,17 +79,18 @@ def wrong_lengths():
             for other in wrong:
                 data = frame.case(call.CODE, contents[:k] + [other] + contents[k + 1:])
                 yield data + GOOD, standing(call, given, k)
-    longest = bytes([16, 4]) + bytes(LONGEST - 2)
-    for call, given in ((read, (longest,)), (plan, (longest, 9, 0)),
-                        (core, (longest, 9, [1] * LONGEST, 1, [])), (quick, (longest, 9)),
-                        (ceiling, (longest, 9))):
+    longest, row = bytes([16, 4]) + bytes(LONGEST - 2), bytes(LONGEST)
+    for call, given in ((read, (longest,)), (plan, (longest, 9, row, 0)),
+                        (plan, (FOUR_EIGHT, 1, row, 0)), (core, (longest, 9, row, row, 1, [])),
+                        (core, (FOUR_EIGHT, 1, bytes([1, 3]), row, 1, [])),
+                        (quick, (longest, 9, row)), (ceiling, (longest, 9, row))):
         yield frame.case(call.CODE, call.contents(*given)) + GOOD, (
             standing(call, given, call.HEAD) + standing(read, (ROW_C,), 1))
 
 
 def fewer_ticks_than_counted():
     """The largest count of ticks, of which three are there."""
-    given = (FOUR_EIGHT, 1, [1, 1], 1, [FULL] * 3)
+    given = (FOUR_EIGHT, 1, bytes([1, 3]), [1, 1], 1, [FULL] * 3)
     contents = core.contents(*given)
     contents[core.HEAD - 1] = frame.number(LARGEST_WORD)
     return frame.case(core.CODE, contents), standing(core, given, len(contents))

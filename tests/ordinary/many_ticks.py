@@ -12,7 +12,8 @@ from random import Random
 
 import frame
 from calls import core as fresh_core
-from samples import LARGEST_WORD, divisors, table_of
+from samples import LARGEST_WORD, divisors, permitting, table_of
+from tables import every_core
 
 # So many ticks, about, go through the program at a time.
 CHUNK = 40_000
@@ -25,8 +26,9 @@ SHORT_FRAMES = [12, 20, 24, 30, 36, 48, 60, 72, 100, 120, 180, 240, 360, 420, 84
 LONG_FRAMES = [2520, 5040, 9240, 10_000, 27_720, 100_000, 720_720, 1_000_000]
 
 # requests: of each task on the core, its request at the first tick of each of its periods.
-Core = namedtuple("Core", "charge m periods budgets placement core full ticks requests")
-Count = namedtuple("Count", "cores ticks periods full charged")
+Core = namedtuple("Core", "table charge core_bytes periods budgets placement core full ticks "
+                          "requests")
+Count = namedtuple("Count", "cores ticks periods full charged tied")
 
 # The bytes of a tick's block, its length first, and the line of a tick that runs a task.
 BLOCK = frame.block(bytes(64))
@@ -36,7 +38,7 @@ RUNS = {frame.line([0, 0, task, 0]).encode().strip(): task for task in range(17)
 def main():
     seed, count, program = sys.argv[1:]
     rng, left = Random(int(seed)), int(count)
-    counted = Count(0, 0, 0, 0, 0)
+    counted = Count(0, 0, 0, 0, 0, 0)
     while left > 0:
         cores, ticks = [], 0
         while ticks < min(CHUNK, left):
@@ -48,8 +50,9 @@ def main():
         if next(printed, None) is not None:
             sys.exit("cases prints more lines than there are ticks")
         left -= ticks
-    print(f"{counted.ticks} ticks of {counted.cores} cores, {counted.full} of them full and "
-          f"{counted.charged} with a charge; {counted.periods} complete periods")
+    print(f"{counted.ticks} ticks of {counted.cores} cores, {counted.full} of them full, "
+          f"{counted.charged} with a charge and {counted.tied} with tied tasks; "
+          f"{counted.periods} complete periods")
 
 
 def lines_of(program, data):
@@ -62,7 +65,7 @@ def lines_of(program, data):
 
 def draw_core(rng, most):
     """A core whose load with the charge is at most one, every other time exactly one where that can
-    be, and what its tasks ask for in at most so many ticks."""
+    be, and what its tasks ask for in at most so many ticks. Every other time the tasks are tied."""
     charge = rng.choice([0, rng.randint(1, 9), rng.randint(1, 9)])
     hyperperiod = rng.choice(rng.choice([SHORT_FRAMES, SHORT_FRAMES, LONG_FRAMES]))
     longer = [period for period in divisors(hyperperiod) if period > charge]
@@ -100,7 +103,10 @@ def draw_core(rng, most):
     eager = rng.random() < 0.5
     requests = {k: draw_requests(rng, budgets[k], -(-ticks // periods[k]), eager)
                 for k in range(n) if placement[k] == chosen}
-    return Core(charge, m, periods, budgets, placement, chosen, room == 0, ticks, requests)
+    table = table_of(m, periods, budgets)
+    core_bytes = rng.choice([every_core(table), permitting(rng, m, placement)])
+    return Core(table, charge, core_bytes, periods, budgets, placement, chosen, room == 0, ticks,
+                requests)
 
 
 def draw_requests(rng, budget, count, eager):
@@ -116,8 +122,8 @@ def draw_requests(rng, budget, count, eager):
 
 def case_of(rng, core):
     """The bytes of a core's case. Requests that are not read are noise."""
-    table = table_of(core.m, core.periods, core.budgets)
-    head = fresh_core.contents(table, core.charge, core.placement, core.core, [])
+    head = fresh_core.contents(core.table, core.charge, core.core_bytes, core.placement, core.core,
+                               [])
     head[-1] = frame.number(core.ticks)
     size = len(BLOCK)
     blocks = bytearray(rng.randbytes(size * core.ticks))
@@ -162,7 +168,8 @@ def check(core, printed):
             periods += complete
             if received > owed or complete and received < owed:
                 wrong(f"task {k + 1} received {received} of {owed} ticks in period {number}")
-    return Count(1, core.ticks, periods, core.full, core.charge > 0)
+    tied = core.core_bytes != every_core(core.table)
+    return Count(1, core.ticks, periods, core.full, core.charge > 0, tied)
 
 
 if __name__ == "__main__":

@@ -1,6 +1,6 @@
 """Holds what a program prints to what the ordinary planner says, byte for byte. The program's name
 says which of the two it is: millplan prints the exact plan, quickplan the quick one, both with
-charge 0.
+charge 0 and on every core.
 
 usage: python3 printed.py SEED COUNT PROGRAM
 """
@@ -14,7 +14,7 @@ from plans import USUAL_LIMIT, plan
 from quick_plans import quick_plan
 from samples import (first_fits, level_table, packed_table, paper_rows, random_table, shapes,
                      telling_tables, uneven_table)
-from tables import read_table
+from tables import every_core, read_table
 
 MOST_READ = 131
 WORDS = ["all", "short", "spent"]
@@ -22,13 +22,13 @@ WORDS = ["all", "short", "spent"]
 
 def exact(table):
     """The exact plan, and the words of its last line."""
-    answer = plan(table, 0, USUAL_LIMIT)
+    answer = plan(table, 0, every_core(table), USUAL_LIMIT)
     return answer, (WORDS[answer.verdict], answer.rejected, answer.steps)
 
 
 def quick(table):
     """The quick plan, and the words of its last line."""
-    answer = quick_plan(table, 0)
+    answer = quick_plan(table, 0, every_core(table))
     return answer, ("quick", answer.rejected)
 
 

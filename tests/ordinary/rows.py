@@ -1,45 +1,65 @@
 """Holds the ordinary programs against rows a to l of the scope paper, and rows worked by hand.
-Where no charge is given it is 0."""
+Where no charge is given it is 0, and where no core bytes are given every core is permitted."""
 
-from ceilings import most_steps, step_ceiling
+from ceilings import step_ceiling
 from samples import LARGEST_WORD, stretched, table_of, telling_tables
 from plans import ALL, SHORT, SPENT, USUAL_LIMIT, plan
 from quick_plans import quick_plan
-from tables import Refusal, read_board, read_table
+from tables import Refusal, every_core, read_board, read_table
 from ticks import EMPTY, Record, Slot, fresh_core, run_core, tick
 
 FULL = [LARGEST_WORD] * 16
 ROW_C = table_of(1, [2, 3, 6], [1, 1, 1])
+ROW_K = table_of(1, [1000, 1001], [1, 1])
 FOUR_EIGHT = table_of(1, [4, 8], [1, 3])
+TENS = [10] * 3
 
 
-def planned(m, periods, budgets, limit=USUAL_LIMIT, charge=0):
+def board_of(table, charge=0, core_bytes=None):
+    return table, charge, every_core(table) if core_bytes is None else bytes(core_bytes)
+
+
+def planned(m, periods, budgets, limit=USUAL_LIMIT, charge=0, core_bytes=None):
     """Verdict, cores, rejected demand and steps."""
-    answer = plan(table_of(m, periods, budgets), charge, limit)
+    answer = plan(*board_of(table_of(m, periods, budgets), charge, core_bytes), limit)
     cores = answer.placement[:len(periods)]
     return answer.verdict, cores, answer.rejected, answer.steps
 
 
-def fitted(m, periods, budgets, charge=0):
+def fitted(m, periods, budgets, charge=0, core_bytes=None):
     """Cores and rejected demand of the quick plan."""
-    answer = quick_plan(table_of(m, periods, budgets), charge)
+    answer = quick_plan(*board_of(table_of(m, periods, budgets), charge, core_bytes))
     return answer.placement[:len(periods)], answer.rejected
 
 
+def ceiling(m, periods, budgets, core_bytes=None):
+    return step_ceiling(*board_of(table_of(m, periods, budgets), 0, core_bytes)).ceiling
+
+
 def runs(all_requests, table=ROW_C, charge=0):
-    return [answer.run for answer in run_core(table, charge, [1] * table[0], 1, all_requests)]
+    answers = run_core(*board_of(table, charge), [1] * table[0], 1, all_requests)
+    return [answer.run for answer in answers]
 
 
-def checked(charge, m, periods, budgets):
+def checked(charge, m, periods, budgets, core_bytes=None):
     """The Refusal of a board, or its demands and its tasks in planning order."""
-    tasks = read_board(table_of(m, periods, budgets), charge)
+    tasks = read_board(*board_of(table_of(m, periods, budgets), charge, core_bytes))
     return tasks if isinstance(tasks, Refusal) else (tasks.demands, tasks.order)
 
 
 def fresh(charge, periods, budgets):
     """The Refusal of a fresh core with all these tasks, or its charge and its first slot."""
-    record = fresh_core(table_of(1, periods, budgets), charge, [1] * len(periods), 1)
+    board = board_of(table_of(1, periods, budgets), charge)
+    record = fresh_core(*board, [1] * len(periods), 1)
     return record if isinstance(record, Refusal) else (record.charge, record.slots[0])
+
+
+def placed(core_bytes, placement, core):
+    """Three tasks of load 0.4 on a board of two cores: the Refusal of a fresh core, or which tasks
+    it has."""
+    table = table_of(2, TENS, [4] * 3)
+    record = fresh_core(*board_of(table, 0, core_bytes), placement, core)
+    return record if isinstance(record, Refusal) else [slot.period > 0 for slot in record.slots[:3]]
 
 
 def ticked(charge, first, request=LARGEST_WORD):
@@ -53,11 +73,11 @@ def same_plan(table, charge):
     other, by = stretched(table, charge), charge + 1
     if other is None:
         return True
-    before, after = plan(table, 0, USUAL_LIMIT), plan(other, charge, USUAL_LIMIT)
+    before = plan(*board_of(table), USUAL_LIMIT)
+    after = plan(*board_of(other, charge), USUAL_LIMIT)
     return after == before._replace(rejected=by * before.rejected)
 
 
-TENS = [10] * 3
 DIFFERING = 2, [10] * 6, [5, 4, 3, 3, 3, 2]
 SEVEN = 3, [10] * 7, [9, 8, 6, 6, 5, 4, 3]
 ROWS = {
@@ -73,7 +93,7 @@ ROWS = {
     "h": runs([FULL] * 6) == [1, 2, 1, 2, 1, 3],
     "i": runs([FULL] * 2 + [[0] + FULL[1:]] + [FULL] * 3) == [1, 2, 3, 2, 1, 0],
     "j": read_table(table_of(1, [1000, 999], [1, 1])).hyperperiod == 999_000,
-    "k": read_table(table_of(1, [1000, 1001], [1, 1])) == Refusal(7, 2),
+    "k": read_table(ROW_K) == Refusal(7, 2),
     "l": read_table(bytes([1])) == Refusal(1, 0)
          and read_table(bytes([17, 1])) == Refusal(2, 0)
          and read_table(table_of(1, [10], [11])) == Refusal(6, 1),
@@ -89,20 +109,20 @@ ROWS = {
     "listing, quick": fitted(1, TENS, [7, 6, 4]) == ([1, 0, 0], 10),
     "differing": fitted(*DIFFERING) == ([1, 1, 2, 2, 2, 0], 2)
                  and planned(*DIFFERING) == (ALL, [1, 2, 1, 2, 2, 1], 0, 11),
-    "k, quick": quick_plan(table_of(1, [1000, 1001], [1, 1]), 0) == (7, 2, 0, [0] * 16),
+    "k, quick": quick_plan(*board_of(ROW_K)) == (7, 2, 0, [0] * 16),
     "empty cores": planned(4, [10] * 5, [6] * 5) == (SHORT, [1, 2, 3, 4, 0], 6, 5),
     "seven": planned(*SEVEN, 20) == (SPENT, [1, 0, 2, 3, 0, 2, 3], 13, 20)
              and planned(*SEVEN, 24) == (SHORT, [1, 0, 2, 3, 0, 2, 3], 13, 24),
-    "ceilings": [step_ceiling(table_of(*table), 0).ceiling for table in
+    "ceilings": [ceiling(*table) for table in
                  ((4, [10] * 5, [6] * 5), SEVEN, (1, TENS, [7, 6, 4]), DIFFERING)]
                 == [752, 8192, 14, 728],
-    "ceilings of 4, 8, 12 and 16": [[most_steps(n, m) for n in (4, 8, 12, 16)]
+    "ceilings of 4, 8, 12 and 16": [[ceiling(m, [10] * n, [1] * n) for n in (4, 8, 12, 16)]
                                     for m in (1, 2, 3, 4)]
                                    == [[30, 510, 8_190, 131_070],
                                        [80, 6_560, 531_440, 43_046_720],
                                        [128, 32_768, 8_388_608, 2_147_483_648],
                                        [152, 93_752, 58_593_752, 36_621_093_752]],
-    "k, ceiling": step_ceiling(table_of(1, [1000, 1001], [1, 1]), 0) == (7, 2, 0),
+    "k, ceiling": step_ceiling(*board_of(ROW_K)) == (7, 2, 0),
     "less": runs([[1] + FULL[1:]] * 3, table_of(1, [3], [2])) == [1, 0, 0],
     # With a charge.
     "charge 9, 10": checked(9, 1, [10], [1]) == ([10], [1])
@@ -112,7 +132,7 @@ ROWS = {
                                     == [Refusal(13, 0)] * 4,
     "time plus charge": checked(1, 1, [10, 10], [9, 9]) == ([10, 10], [1, 2])
                         and checked(1, 1, [10, 10], [9, 10]) == Refusal(14, 2),
-    "13 after 4, before 5": read_board(table_of(1, [0], [1]) + b"\0", 10) == Refusal(4, 0)
+    "13 after 4, before 5": plan(*board_of(table_of(1, [0], [1]) + b"\0", 10), 5)[:2] == (4, 0)
                             and checked(10, 1, [0], [1]) == Refusal(13, 0),
     "14 after 6, before 7": checked(1, 1, [10, 10], [10, 0]) == Refusal(6, 2)
                             and checked(1, 1, [1000, 1001, 10], [1, 1, 10]) == Refusal(14, 3)
@@ -127,15 +147,16 @@ ROWS = {
                    and fitted(1, [10, 10], [3, 7], charge=1) == ([0, 1], 4),
     "listing, charge 1": planned(1, TENS, [7, 6, 4], charge=1) == (SHORT, [1, 0, 0], 12, 5)
                          and planned(1, TENS, [7, 6, 4], 2, charge=1) == (SPENT, [0, 0, 0], 20, 2),
-    "refused, charge 10": plan(ROW_C, 10, 5) == (13, 0, 0, 0, 0, [0] * 16)
-                          and quick_plan(ROW_C, 10) == (13, 0, 0, [0] * 16)
-                          and step_ceiling(ROW_C, 10) == (13, 0, 0)
-                          and step_ceiling(ROW_C, 2) == (14, 1, 0),
-    "ceiling, charge 9": step_ceiling(table_of(4, [100] * 5, [60] * 5), 9) == (0, 0, 752),
+    "refused, charge 10": plan(*board_of(ROW_C, 10), 5) == (13, 0, 0, 0, 0, [0] * 16)
+                          and quick_plan(*board_of(ROW_C, 10)) == (13, 0, 0, [0] * 16)
+                          and step_ceiling(*board_of(ROW_C, 10)) == (13, 0, 0)
+                          and step_ceiling(*board_of(ROW_C, 2)) == (14, 1, 0),
+    "ceiling, charge 9": step_ceiling(*board_of(table_of(4, [100] * 5, [60] * 5), 9))
+                         == (0, 0, 752),
     "load of one": fresh(1, [10, 10], [4, 4]) == (1, Slot(10, 4, 0, 0))
                    and fresh(1, [10, 10], [4, 5]) == Refusal(11, 0)
                    and fresh(0, [10, 10], [4, 5]) == (0, Slot(10, 4, 0, 0)),
-    "empty core": fresh_core(ROW_C, 1, [0] * 3, 1) == Record(1, [EMPTY] * 16),
+    "empty core": fresh_core(*board_of(ROW_C, 1), [0] * 3, 1) == Record(1, [EMPTY] * 16),
     "h, charge 1": runs([FULL] * 8, FOUR_EIGHT, 1) == [1, 1, 2, 2, 1, 1, 2, 2],
     "ask one": runs([[1] * 16] * 8, FOUR_EIGHT, 1) == [1, 1, 2, 2, 1, 1, 0, 0],
     "ask nothing": runs([FULL] * 4 + [[0] * 16] * 4, FOUR_EIGHT, 1) == [1, 1, 2, 2, 2, 2, 0, 0],
@@ -154,6 +175,45 @@ ROWS = {
                               for slot in (EMPTY, Slot(1, 2, 3, 4))],
     "same demands, same plan": all(same_plan(table, charge)
                                    for table in telling_tables() for charge in (1, 4, 9)),
+    # With tasks tied to certain cores.
+    "each to its own": planned(2, [4] * 2, [4, 4], core_bytes=[2, 1]) == (ALL, [2, 1], 0, 2)
+                       and fitted(2, [4] * 2, [4, 4], core_bytes=[2, 1]) == ([2, 1], 0),
+    "placed tasks count": planned(3, [4] * 3, [4, 4, 4], core_bytes=[3, 6, 1])
+                          == (ALL, [2, 3, 1], 0, 7),
+    "both or neither": planned(3, [4] * 3, [1, 1, 4], core_bytes=[5, 2, 2])
+                       == (SHORT, [1, 0, 2], 1, 3),
+    "all tasks count": planned(2, [4] * 2, [4, 4], core_bytes=[3, 1]) == (ALL, [2, 1], 0, 4),
+    "left out, tied": planned(2, [10] * 2, [6, 6], core_bytes=[1, 1]) == (SHORT, [1, 0], 6, 2)
+                      and fitted(2, [10] * 2, [6, 6], core_bytes=[2, 2]) == ([2, 0], 6),
+    "spent, tied": planned(2, [4] * 2, [4, 4], 3, core_bytes=[3, 1]) == (SPENT, [1, 0], 4, 3),
+    "ceilings, tied": ceiling(3, [10] * 2, [1, 1]) == 8
+                      and ceiling(3, [10] * 2, [1, 1], [7, 3]) == 16
+                      and ceiling(2, TENS, [1, 3, 2], [1, 3, 3]) == 30
+                      and ceiling(2, TENS, [3, 1, 2], [1, 3, 3]) == 26,
+    "ceilings beyond 32 bits": ceiling(3, [100] * 16, [1] * 16, [7] * 15 + [3]) == 4_652_881_236
+                               and ceiling(4, [100] * 14, [1] * 14, [15] * 13 + [7])
+                               == 6_408_691_405
+                               and ceiling(4, [100] * 16, [1] * 16, [15] * 15 + [7])
+                               == 160_217_285_155,
+    "core bytes": [checked(0, 2, TENS, [1] * 3, core_bytes) for core_bytes in
+                   ([3, 3], [3] * 4, [0, 3], [3, 0, 4], [3, 4, 0], [1, 2, 19], [1, 2, 3])]
+                  == [Refusal(15, place) for place in (0, 0, 0, 2, 2, 3)] + [([1] * 3, [1, 2, 3])],
+    "15 after 14, before 7": checked(1, 2, [10] * 2, [1, 10], [0, 3]) == Refusal(14, 2)
+                             and checked(0, 2, [1000, 1001], [1, 1], [3, 0]) == Refusal(15, 2)
+                             and checked(0, 2, [1000, 1001], [1, 1], [3]) == Refusal(15, 0)
+                             and checked(0, 2, [1000, 1001], [1, 1], [3, 1]) == Refusal(7, 2),
+    "refused, core byte 4": plan(*board_of(ROW_C, 0, [1, 4, 1]), 5) == (15, 2, 0, 0, 0, [0] * 16)
+                            and quick_plan(*board_of(ROW_C, 0, [1, 1])) == (15, 0, 0, [0] * 16)
+                            and step_ceiling(*board_of(ROW_C, 0, [1, 1, 0])) == (15, 3, 0),
+    "16 after 9": placed([3, 1, 3], [1, 2, 3], 1) == Refusal(9, 3)
+                  and placed([3, 1, 3], [1, 2], 1) == Refusal(9, 0)
+                  and placed([3, 1, 3], [1, 2, 2], 1) == Refusal(16, 2),
+    "16 before 10 and 11": placed([1, 2, 1], [0, 2, 2], 3) == Refusal(16, 3)
+                           and placed([1, 1, 2], [1, 1, 1], 1) == Refusal(16, 3)
+                           and placed([1, 1, 1], [1, 1, 1], 1) == Refusal(11, 0)
+                           and placed([1, 1, 2], [1, 1, 2], 3) == Refusal(10, 0),
+    "permitted": placed([1, 1, 2], [1, 0, 2], 1) == [True, False, False]
+                 and placed([2, 2, 2], [0, 0, 0], 1) == [False] * 3,
 }
 
 if __name__ == "__main__":

@@ -1,11 +1,13 @@
 """Tables as bytes: random ones, and those that show each refusal and each way of planning. A board
-is a table and a switch charge."""
+is a table, a switch charge and the core bytes of the tasks. It is tied if some task may not use
+every core."""
 
 from functools import lru_cache
 from itertools import combinations, cycle
 
 from frame import number, numbers
-from tables import LARGEST_CHARGE, LARGEST_HYPERPERIOD, LONGEST_PERIOD, read_table
+from tables import (LARGEST_CHARGE, LARGEST_HYPERPERIOD, LONGEST_PERIOD, MOST_CORES, every_core,
+                    read_table)
 
 LARGEST_WORD = 2**32 - 1
 
@@ -136,14 +138,67 @@ def damaged(rng, table):
 
 
 def damaged_board(rng, table, charge):
-    """Mostly the board as it is, otherwise one whose table has some damage, or one whose charge is
-    refused, or larger, so that a budget and it may pass the period."""
+    """Mostly the table and the charge as they are, otherwise a table with some damage, or a charge
+    that is refused, or larger, so that a budget and it may pass the period. Untied."""
     damage = rng.randint(1, 12)
     if damage == 1:
-        return table, rng.choice(REFUSED_CHARGES)
+        charge = rng.choice(REFUSED_CHARGES)
+    elif damage == 2:
+        charge = rng.randint(charge, LARGEST_CHARGE)
+    else:
+        table = damaged(rng, table)
+    return table, charge, every_core(table)
+
+
+def untied_core_bytes(_, table):
+    """Core bytes that permit every core, where others are drawn."""
+    return every_core(table)
+
+
+def random_core_bytes(rng, table):
+    """Core bytes for an accepted table: one or two tasks are tied to one core each, or about half
+    of them are; or each may use any set of cores; or the cores are parted in two groups, and each
+    task may use one of these or both, so that twins are common."""
+    n, every = table[0], 2**table[1] - 1
+    manner = rng.randrange(4)
+    if manner == 0:
+        row = [every] * n
+        for _ in range(rng.randint(1, 2)):
+            row[rng.randrange(n)] = 2**rng.randrange(table[1])
+    elif manner == 1:
+        row = [rng.choice([every, 2**rng.randrange(table[1])]) for _ in range(n)]
+    elif manner == 2:
+        row = [rng.randint(1, every) for _ in range(n)]
+    else:
+        group = rng.randint(1, every)
+        row = [rng.choice([group, every - group, every]) or every for _ in range(n)]
+    return bytes(row)
+
+
+def permitting(rng, m, placement):
+    """Core bytes with which this placement is permitted."""
+    return bytes(rng.randrange(2**m) | 2**(core - 1) if core > 0 else rng.randint(1, 2**m - 1)
+                 for core in placement)
+
+
+def damaged_core_bytes(rng, m, core_bytes):
+    """Five times in six these core bytes, otherwise with an entry that is 0 or has a bit above core
+    m, with any entry, or with another length."""
+    at, damage = rng.randrange(len(core_bytes)), rng.randint(1, 18)
+    if damage == 1:
+        wrong = rng.choice([0, 2**rng.randint(m, 7), core_bytes[at] | 2**rng.randint(m, 7)])
+        return bytes(put(core_bytes, at, wrong))
     if damage == 2:
-        return table, rng.randint(charge, LARGEST_CHARGE)
-    return damaged(rng, table), charge
+        return bytes(put(core_bytes, at, rng.randrange(256)))
+    if damage == 3:
+        return (core_bytes * 2)[:rng.choice([0, at, len(core_bytes) - 1, len(core_bytes) + 1])]
+    return core_bytes
+
+
+def damaged_tied(rng, table, charge):
+    """A tied board, or one with some damage to its table, its charge or its core bytes."""
+    core_bytes = damaged_core_bytes(rng, table[1], random_core_bytes(rng, table))
+    return *damaged_board(rng, table, charge)[:2], core_bytes
 
 
 # Tables and boards that are not drawn at random.
@@ -153,11 +208,16 @@ def in_turn(rows, charges):
     return list(zip(rows, cycle(charges)))
 
 
-def stretched_boards(tables):
-    """Boards of these tables, stretched for the charges 1 to 9 in turn where that can be."""
-    boards = [(stretched(table, charge), charge)
-              for table, charge in in_turn(tables, range(1, LARGEST_CHARGE + 1))]
-    return [board for board in boards if board[0] is not None]
+def untied(tables, charges=(0,)):
+    """Boards of these tables, the charges taken in turn; each task may use every core."""
+    return [(table, charge, every_core(table)) for table, charge in in_turn(tables, charges)]
+
+
+def stretched_boards(boards):
+    """These boards, stretched for the charges 1 to 9 in turn where that can be."""
+    made = [(stretched(table, charge), charge, core_bytes)
+            for (table, _, core_bytes), charge in in_turn(boards, range(1, LARGEST_CHARGE + 1))]
+    return [board for board in made if board[0] is not None]
 
 
 def paper_rows():
@@ -224,17 +284,19 @@ def entries():
     return tables
 
 
-def sets_of_faults(numbers=(2, 3, 4, 13, 5, 6, 14, 7), most=8):
+def sets_of_faults(numbers=(2, 3, 4, 13, 5, 6, 14, 15, 7), most=2):
     """Boards with every set of these numbers at once, up to so many; of a set the first in this
     order must win."""
     boards = []
     for size in range(most + 1):
         for faults in combinations(numbers, size):
-            periods, budgets, charge = [10, 20, 30], [1, 2, 3], 3
+            periods, budgets, charge, core_bytes = [10, 20, 30], [1, 2, 3], 3, [3, 3, 3]
             if 13 in faults:
                 charge = 10
             if 7 in faults:
                 periods[:2] = [1000, 1001]
+            if 15 in faults:
+                core_bytes[1] = 0
             if 14 in faults:
                 budgets[1] = periods[1] - charge + 1
             if 6 in faults:
@@ -248,13 +310,14 @@ def sets_of_faults(numbers=(2, 3, 4, 13, 5, 6, 14, 7), most=8):
                 table[1] = 5
             if 2 in faults:
                 table[0] = 17
-            boards.append((bytes(table), charge))
+            boards.append((bytes(table), charge, bytes(core_bytes)))
     return boards
 
 
 def charges():
-    """Boards with each edge of a charge and of a budget with it (numbers 13 and 14), what comes
-    before and behind these, and what the charge does to the planning order and to full cores."""
+    """Untied boards with each edge of a charge and of a budget with it (numbers 13 and 14), what
+    comes before and behind these, and what the charge does to the planning order and to full
+    cores."""
     plain = table_of(2, [100, 50, 20, 40], [30, 9, 5, 11])
     boards = [(plain, charge) for charge in [*range(10), *REFUSED_CHARGES]]
     # A budget that with the charge is one below its period, its period, and one above.
@@ -295,7 +358,152 @@ def charges():
                for first, second in ((500, 500), (499, 501)) for charge in (1, 9)]
     # The most that can be rejected.
     boards.append((table_of(1, [999, 1001] * 8, [990, 992] * 8), 9))
+    return [(table, charge, every_core(table)) for table, charge in boards]
+
+
+def core_byte_edges():
+    """Boards with each edge of a core byte (number 15)."""
+    boards = []
+    # Every byte that is allowed; 0; each bit above core m, alone and beside bits that are allowed.
+    # First, middle and last task in turn.
+    for m in range(1, MOST_CORES + 1):
+        every = 2**m - 1
+        above = [2**bit for bit in range(m, 8)]
+        row = [0, *range(1, every + 1), *above, *(bit | every for bit in above), 240, 255]
+        boards += [(table_of(m, [20] * 3, [11] * 3), 0, bytes(put([every] * 3, k % 3, byte)))
+                   for k, byte in enumerate(row)]
+    # Every task of sixteen may be the first.
+    sixteen = table_of(3, [100] * 16, [7] * 16)
+    for k in range(16):
+        wrong = [0, 8][k % 2]
+        boards.append((sixteen, 0, bytes([7] * k + [wrong] + [8 - wrong] * (15 - k))))
     return boards
+
+
+def core_byte_faults():
+    """Boards with another number of core bytes than tasks, with several faults of them, and with
+    other numbers beside 15."""
+    three, boards = table_of(2, [20] * 3, [11] * 3), []
+    # Another length than n, also one that agrees with it in the lowest byte.
+    for n, lengths in ((1, (0, 2, 257)), (3, (0, 2, 4, 16, 259, 1024)), (16, (0, 15, 17, 272))):
+        table = table_of(2, [100] * n, [6] * n)
+        boards += [(table, 0, [3] * length) for length in lengths]
+    # The length comes before any entry, also one that is too many.
+    boards += [(three, 0, row) for row in ([0, 3], [3, 0, 4, 3], [4] * 16, [3, 3, 3, 0], [0])]
+    # Of several tasks the first is named.
+    boards += [(three, 1, row) for row in ([3, 0, 4], [3, 4, 0], [0, 3, 0], [16, 3, 0])]
+    # 1 to 6, 13 and 14 of any task come before 15 of any, 15 of any before 7.
+    first = [(bytes([1]), 0), (bytes([17, 2]), 0), (bytes([3, 5]), 0), (three + b"\0", 0),
+             (three, 10), (table_of(2, [10, 10, 0], [1, 1, 1]), 0),
+             (table_of(2, [10, 10, 10], [1, 1, 11]), 0), (table_of(2, [10, 10, 10], [1, 1, 10]), 1)]
+    boards += [(*pair, row) for pair in first for row in ([3, 3], [0, 3, 3])]
+    boards += [(table_of(2, [1000, 1001, 10], [1] * 3), 0, row)
+               for row in ([], [3, 3], [3] * 4, [0, 3, 3], [3, 3, 0], [3, 3, 4], [3, 3, 1])]
+    return [(table, charge, bytes(row)) for table, charge, row in boards]
+
+
+def tied_boards():
+    """Small boards on each of which some wrong use of core bytes shows."""
+    # The number of cores, a period for all tasks, their budgets and their core bytes.
+    rows = [
+        # each task is tied to a core of its own; if an empty core were passed over for any lower
+        # empty one, the first task would have none
+        (2, 4, [4, 4], [2, 1]),
+        (2, 4, [4, 4], [1, 2]),
+        (3, 4, [4, 4, 4], [4, 2, 1]),
+        (4, 4, [4, 4, 4, 4], [8, 4, 2, 1]),
+        (4, 6, [6, 3], [12, 11]),
+        # the task at hand may use both of two empty cores and a later one only the lower, so that
+        # the higher has to be tried
+        (2, 4, [4, 4], [3, 1]),
+        (2, 10, [6, 5], [3, 1]),
+        (4, 4, [4, 4], [14, 2]),
+        (3, 4, [4, 4], [7, 5]),
+        (3, 10, [10, 10, 10], [6, 6, 2]),
+        # tasks that are already placed count too
+        (3, 4, [4, 4, 4], [3, 6, 1]),
+        (4, 4, [4, 4, 4], [6, 13, 2]),
+        (3, 4, [4, 4, 4], [3, 7, 7]),
+        (3, 4, [4, 4, 3, 3], [4, 7, 7, 7]),
+        # twins are also cores of which some task, or every one, may use neither
+        (3, 4, [1, 1, 4], [5, 2, 2]),
+        (4, 4, [4, 4, 4], [8, 7, 8]),
+        (4, 4, [4, 4, 4, 4], [3, 3, 12, 12]),
+        (4, 4, [3, 3, 3, 3, 3], [3, 12, 3, 12, 15]),
+        (4, 4, [4, 4, 4, 4, 4], [6, 6, 6, 6, 6]),
+        # the lower twin is not the next core; of the empty ones the lowest, or the highest below,
+        # is no twin
+        (3, 4, [4, 4, 4], [5, 2, 2]),
+        (3, 4, [3, 3, 3, 3], [5, 7, 5, 7]),
+        (4, 4, [4, 4, 4], [12, 12, 12]),
+        (4, 4, [4, 4, 4, 4], [9, 9, 6, 9]),
+        (4, 4, [3, 3, 3, 3, 3], [15, 9, 15, 9, 15]),
+        (4, 4, [3, 3, 3, 3, 3], [11, 11, 4, 15, 11]),
+        # the lowest of three twins is used; the others are still twins
+        (4, 4, [4, 4, 4, 1], [7, 7, 7, 7]),
+        (4, 4, [3, 3, 3, 3, 3], [14, 14, 1, 14, 15]),
+        # the lower twin is used, and an empty lower core is no twin
+        (4, 10, [10, 10, 10, 10], [15, 11, 11, 11]),
+        # no two cores are twins
+        (4, 10, [6, 6, 6, 6, 6], [15, 14, 12, 8, 15]),
+        (4, 10, [9, 8, 7, 6, 5, 4], [3, 6, 12, 9, 15, 5]),
+        (3, 10, [5, 5, 5, 5, 5, 5], [1, 3, 2, 6, 4, 5]),
+        (3, 6, [4, 6, 3], [3, 6, 3]),
+        (3, 6, [6, 6, 6], [3, 2, 2]),
+        # too much for the cores that may be used: the excess counts the others all the same
+        (3, 4, [4, 2, 4], [1, 1, 1]),
+        (2, 10, [6, 5, 4, 3], [2, 2, 2, 2]),
+        (4, 10, [7, 6, 5, 4, 3], [4, 4, 4, 4, 4]),
+        (3, 10, [8, 7, 6, 5, 4], [1, 1, 4, 4, 5]),
+        (2, 10, [10, 10, 10], [3, 1, 3]),
+        # a task is left out though another core has room; a heavier one for two lighter ones
+        (2, 10, [6, 6], [1, 1]),
+        (2, 10, [8, 5, 5], [3, 2, 2]),
+        (2, 10, [9, 8, 2, 2], [1, 1, 1, 3]),
+        (3, 10, [6, 5, 5, 4], [6, 2, 4, 6]),
+        # the task that may use more cores has to leave the lowest to those tied to it
+        (2, 10, [7, 4, 3], [3, 1, 1]),
+        (3, 10, [7, 6, 5, 4], [7, 3, 1, 1]),
+        (4, 10, [9, 8, 7, 6], [15, 7, 3, 1]),
+        (4, 10, [6, 7, 8, 9], [1, 3, 7, 15]),
+        # planning order is not table order
+        (3, 4, [1, 2], [4, 2]),
+        (2, 10, [10, 4, 9], [3, 3, 2]),
+        (3, 10, [1, 2, 3, 4, 5, 6], [1, 2, 4, 3, 6, 5]),
+        (3, 10, [6, 5, 4, 3, 2, 1], [1, 2, 4, 3, 6, 5]),
+        # the decryption unit hangs on core 1 and the drive bus on core 2; each core is closed to
+        # one task
+        (2, 100, [45, 40, 35, 30, 25, 20], [1, 2, 3, 3, 3, 3]),
+        (3, 100, [65, 60, 55, 50, 45, 20], [1, 2, 7, 7, 7, 7]),
+        (4, 100, [93, 86, 79, 71, 70, 48], [1, 2, 15, 15, 15, 15]),
+        (4, 100, [93, 86, 79, 71, 70, 48], [14, 13, 11, 7, 15, 15]),
+    ]
+    return [(table_of(m, [period] * len(budgets), budgets), 0, bytes(core_bytes))
+            for m, period, budgets, core_bytes in rows]
+
+
+def lowest_permitted():
+    """Two full tasks and each core byte: the lowest core that it permits, then the next."""
+    return [(table_of(m, [10] * 2, [10] * 2), 0, bytes([byte] * 2))
+            for m in range(2, MOST_CORES + 1) for byte in range(1, 2**m - 1)]
+
+
+def larger_tied():
+    """Up to sixteen tasks, more than can be planned by trying all placements."""
+    up = list(range(1, 17))
+    rows = [
+        (2, [17 - k for k in up], [1, 2] + [3] * 14),
+        (2, up, [3] * 8 + [1, 2] * 4),
+        (3, [20 + k for k in up], [1, 2] + [7] * 14),
+        (3, [30 + 7 * k % 11 for k in up], [1, 2, 4, 7] * 4),
+        (3, [19] * 16, [5, 5, 2, 7] * 4),
+        (4, [25] * 16, [15] * 15 + [8]),
+        (4, [19 + k for k in up], [3, 12] * 8),
+        (4, [40 - k for k in up], [1 + 7 * k % 15 for k in up]),
+        (4, [30 + 7 * k % 11 for k in up], [9, 6, 15, 15] * 4),
+    ]
+    return [(table_of(m, [100] * 16, budgets), 0, bytes(core_bytes))
+            for m, budgets, core_bytes in rows]
 
 
 def hyperperiods():

@@ -3,7 +3,7 @@ deadline first, which never sees a record."""
 
 from collections import namedtuple
 
-from tables import LARGEST_CHARGE, LONGEST_PERIOD, Refusal, read_board
+from tables import LARGEST_CHARGE, LONGEST_PERIOD, Refusal, every_core, read_board
 
 # until: ticks until the next release; remaining: ticks still owed.
 Slot = namedtuple("Slot", "period budget until remaining")
@@ -16,9 +16,9 @@ Record = namedtuple("Record", "charge slots")
 TickAnswer = namedtuple("TickAnswer", "number place run late")
 
 
-def fresh_core(table, charge, placement, core):
+def fresh_core(table, charge, core_bytes, placement, core):
     """The Refusal, or the Record."""
-    tasks = read_board(table, charge)
+    tasks = read_board(table, charge, core_bytes)
     if isinstance(tasks, Refusal):
         return tasks
     if len(placement) != tasks.n:
@@ -26,6 +26,9 @@ def fresh_core(table, charge, placement, core):
     for k in range(tasks.n):
         if placement[k] > tasks.m:
             return Refusal(9, k + 1)
+    for k in range(tasks.n):
+        if placement[k] != 0 and placement[k] not in tasks.permitted[k]:
+            return Refusal(16, k + 1)
     if not 1 <= core <= tasks.m:
         return Refusal(10, 0)
     load = sum(tasks.demands[k] for k in range(tasks.n) if placement[k] == core)
@@ -79,7 +82,7 @@ def cannot_be(slot, charge):
             or slot.remaining > slot.budget + charge)
 
 
-# The book. It is not told what the tick makes of a request.
+# The book. It is told neither what the tick makes of a request nor which cores are permitted.
 
 def owed_for(tasks, task, request):
     """What a task is owed for a period at whose first tick it asks for so much."""
@@ -88,7 +91,7 @@ def owed_for(tasks, task, request):
 
 def book(table, charge, placement, core, all_requests):
     """The task that earliest deadline first names at each tick of an accepted core."""
-    tasks = read_board(table, charge)
+    tasks = read_board(table, charge, every_core(table))
     on_core = [task for task in range(1, tasks.n + 1) if placement[task - 1] == core]
     owed, had, named = {}, {}, []
     for now, requests in enumerate(all_requests):
@@ -109,10 +112,10 @@ def book(table, charge, placement, core, all_requests):
     return named
 
 
-def run_core(table, charge, placement, core, all_requests):
+def run_core(table, charge, core_bytes, placement, core, all_requests):
     """The Refusal of the fresh core, or the TickAnswers of this list of ticks. An accepted list
     must be what the book and the guarantee of served periods say."""
-    record = fresh_core(table, charge, placement, core)
+    record = fresh_core(table, charge, core_bytes, placement, core)
     if isinstance(record, Refusal):
         return record
     answers = []
@@ -131,7 +134,7 @@ def run_core(table, charge, placement, core, all_requests):
 def check_periods(table, charge, placement, core, all_requests, runs):
     """Every complete period has received exactly what it is owed, an unfinished one no more;
     tasks elsewhere receive nothing."""
-    tasks = read_board(table, charge)
+    tasks = read_board(table, charge, every_core(table))
     for task in range(1, tasks.n + 1):
         if placement[task - 1] != core:
             assert task not in runs

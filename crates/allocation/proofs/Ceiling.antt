@@ -1,21 +1,26 @@
 -- The complete walk has at most as many steps as the ceiling says.
-use Prim.Native.Nat.{ℕ, zero, suc, _+_, _*_, _≤_, _<_, min, zero-le}
-use native.Mathlib.Nat.{le-trans, le-of-eq, add-zero, zero-add, mul-le-mul-right}
+use Prim.Native.Nat.{ℕ, zero, suc, pred, _+_, _*_, _≤_, min, zero-le}
+use native.Mathlib.Nat.{le-refl, le-trans, le-of-eq, add-zero, zero-add, mul-le-mul-right}
 use native.Mathlib.Omega.{arith}
-use mathlib.Core.Path.{_≡_, refl, sym, ap, _∙_}
-use mathlib.Core.Bool.{Bool, true, false, cond, not, _&&_, _||_}
+use mathlib.Core.Path.{_≡_, refl, ap}
+use mathlib.Core.Bool.{Bool, true, false, cond, not, _&&_, _||_, and-true, or-true}
 use mathlib.Core.List.{List, [], _∷_, _++_}
 use mathlib.Core.Logic.{⊎-elim}
 use lib.Dec.{eqb, ltb}
 use lib.ListN.{length, length-append}
+use borrow.Author.Tests.{ne-eqb}
+use Rattle.affinity.specs.Permitted.{permittedCount}
+use Rattle.numbers.specs.Rows.{entry}
 use Rattle.numbers.specs.Sums.{sumOver, sumTo, sumFromOne, productTo, productFromOne}
 use Rattle.numbers.specs.Loads.{demandOn}
 use Rattle.numbers.proofs.BoolLaws.{true-or-false, cond-le}
 use Rattle.numbers.proofs.SumLaws.{sumTo-cong, sumTo-mono, sumTo-bound, sumTo-add, sumTo-front, sumTo-only}
-use Rattle.allocation.specs.Placement.{Problem}
-use Rattle.allocation.specs.Rule.{isEmpty, someEmpty, tried}
+use Rattle.allocation.specs.Placement.{Problem, permits}
+use Rattle.allocation.specs.Rule.{isEmpty, someEmptyTwin, tried}
+use Rattle.allocation.specs.EntryRule.{Twins}
 use Rattle.allocation.specs.Walk.{Step, boundAfter, entered, tryAll, visit, choices, upFrom, trace}
-use Rattle.allocation.proofs.Sound.{into, entered-tried, try-skip, try-enter}
+use Rattle.allocation.proofs.Sound.{into, core-fits, entered-fits, entered-tried, try-skip, try-enter}
+use Rattle.allocation.proofs.EmptyCores.{so-twins}
 
 -- ---- a tree whose nodes have f 1, f 2, .. children by depth
 
@@ -108,12 +113,30 @@ module _ (P : Problem) (test : List ℕ → ℕ → Bool) (passes : (p : List �
 
 -- ---- the choices that the empty-core rule leaves
 
+-- every two cores are twins
+abbrev pub AllTwins : Problem → Type 0
+AllTwins P = (c d : ℕ) → c ≤ P .cores → d ≤ P .cores → 1 ≤ c → 1 ≤ d → Twins P c d
+
+-- one of the cores 1 to k is empty
+someEmpty : Problem → List ℕ → ℕ → Bool
+someEmpty P p zero = false
+someEmpty P p (suc k) = isEmpty P p (suc k) || someEmpty P p k
+
+-- then each is a twin of core c
+each-twin : (P : Problem) → AllTwins P → (p : List ℕ) (c : ℕ) → 1 ≤ c → c ≤ P .cores → (k : ℕ) → k ≤ P .cores → someEmptyTwin P p c k ≡ someEmpty P p k
+unfolding someEmptyTwin someEmpty
+each-twin P all p c i j zero h = refl
+each-twin P all p c i j (suc k) h =
+    rw (so-twins P c (suc k) (all c (suc k) j h i (omega arith)), and-true (isEmpty P p (suc k)), each-twin P all p c i j k (omega arith))
+
 -- of the empty cores it leaves one
-one-empty : (P : Problem) (p : List ℕ) (m : ℕ)
+one-empty : (P : Problem) → AllTwins P → (p : List ℕ) (m : ℕ) → m ≤ P .cores
     → sumFromOne (λ c. one (tried P p c)) m ≤ sumFromOne (λ c. one (not (isEmpty P p c))) m + one (someEmpty P p m)
 unfolding sumTo tried someEmpty
-one-empty P p zero = zero-le
-one-empty P p (suc m) = go (isEmpty P p (suc m)) (someEmpty P p m) (one-empty P p m)
+one-empty P all p zero h = zero-le
+one-empty P all p (suc m) h =
+    rw (each-twin P all p (suc m) (omega arith) h m (omega arith))
+    (go (isEmpty P p (suc m)) (someEmpty P p m) (one-empty P all p m (omega arith)))
   where
     a : ℕ
     a = sumFromOne (λ c. one (tried P p c)) m
@@ -150,20 +173,49 @@ used m (w ∷ ws) (x ∷ p) =
     go c false = rw (zero-add (demandOn c ws p)) (omega arith)
 
 -- of the choices after p the walk tries the smaller of one more than were made and the number of cores, and leaving out
-few-tried : (P : Problem) (p : List ℕ) → count (tried P p) (choices (P .cores)) ≤ min (suc (length p)) (P .cores) + 1
+few-tried : (P : Problem) → AllTwins P → (p : List ℕ) → count (tried P p) (choices (P .cores)) ≤ min (suc (length p)) (P .cores) + 1
 unfolding isEmpty
-few-tried P p =
+few-tried P all p =
     let m = P .cores in
     omega (
       arith,
       count-choices (tried P p) m,
-      one-empty P p m,
+      one-empty P all p m (le-refl m),
       one-le (someEmpty P p m),
       used (suc m) (P .demands) p,
       sumTo-front (λ c. one (not (isEmpty P p c))) m,
       sumTo-bound (λ c. one (tried P p (suc c))) m 1 (λ c h. one-le (tried P p (suc c))),
     )
 
--- the steps are at most the sum, over k from 1 to n, of the product over j from 1 to k of the smaller of j and m, plus 1
-pub walk-steps : (P : Problem) → length (trace P) ≤ sumFromOne (λ k. productFromOne (λ j. min j (P .cores) + 1) k) (length (P .demands))
-walk-steps P = trace-steps P (tried P) (entered-tried P) (λ j. min j (P .cores) + 1) (few-tried P)
+-- where every two cores are twins the steps are at most the sum, over k from 1 to n, of the product over j from 1 to k of the smaller of j
+-- and m, plus 1
+pub walk-steps : (P : Problem) → AllTwins P
+    → length (trace P) ≤ sumFromOne (λ k. productFromOne (λ j. min j (P .cores) + 1) k) (length (P .demands))
+walk-steps P all = trace-steps P (tried P) (entered-tried P) (λ j. min j (P .cores) + 1) (few-tried P all)
+
+-- ---- the choices that the permissions leave
+
+module _ (P : Problem) where
+  allows : List ℕ → ℕ → Bool
+  allows p c = eqb c 0 || permits P (length p) c
+
+  entered-allows : (p : List ℕ) (c b : ℕ) → entered P p c b ≡ true → allows p c ≡ true
+  unfolding allows
+  entered-allows p zero b e = refl
+  entered-allows p (suc c) b e = rw (core-fits P p (suc c) (entered-fits P p (suc c) b e) (omega arith) .0, or-true)
+
+  few-allowed : (p : List ℕ) → count (allows p) (choices (P .cores)) ≤ permittedCount (entry (P .affinity) (length p)) (P .cores) + 1
+  unfolding allows permittedCount
+  few-allowed p =
+      let m = P .cores in
+      omega (
+        arith,
+        count-choices (allows p) m,
+        sumTo-cong (λ c. one (allows p (suc c))) (λ c. one (permits P (length p) (suc c))) m
+            (λ c h. ap (λ (b : Bool). one (b || permits P (length p) (suc c))) (ne-eqb (suc c) 0 (λ e. omega arith))),
+      )
+
+  -- the steps are at most the sum, over k from 1 to n, of the product over j from 1 to k of how many cores the jth task permits, plus 1
+  pub permitted-steps : length (trace P)
+      ≤ sumFromOne (λ k. productFromOne (λ j. permittedCount (entry (P .affinity) (pred j)) (P .cores) + 1) k) (length (P .demands))
+  permitted-steps = trace-steps P allows entered-allows (λ j. permittedCount (entry (P .affinity) (pred j)) (P .cores) + 1) few-allowed

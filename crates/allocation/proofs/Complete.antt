@@ -9,7 +9,7 @@ use mathlib.Core.Logic.{_⊎_, inl, inr, ⊎-elim}
 use lib.ListN.{length, getD, length-append}
 use lib.Seq.{append-snoc, getD-append-seam, take-append-seam, take-all}
 use borrow.Author.Tests.{lt-ltb}
-use Rattle.allocation.specs.Placement.{Problem, Feasible, rejected, load}
+use Rattle.allocation.specs.Placement.{Problem, permits, Feasible, rejected, load}
 use Rattle.allocation.specs.Best.{Earlier, Before}
 use Rattle.allocation.specs.Rule.{tried, Redundant}
 use Rattle.allocation.specs.Walk.{Step, stepInto, boundAfter, storedAfter, fits, entered, tryAll, visit, choices}
@@ -43,7 +43,7 @@ module _ (P : Problem) (p : List ℕ) (c : ℕ) (r : List ℕ) where
   pub choice-within : Feasible P (p ++ (c ∷ r)) → c ≤ P .cores
   choice-within f = rw getD-append-seam at (f .core (length p) at-seam)
 
-  choice-permitted : Feasible P (p ++ (c ∷ r)) → 1 ≤ c → P .permits (length p) c ≡ true
+  choice-permitted : Feasible P (p ++ (c ∷ r)) → 1 ≤ c → permits P (length p) c ≡ true
   choice-permitted f = rw getD-append-seam at (f .permitted (length p) at-seam)
 
   pub snoc-mono : (d : ℕ) → load P d (p ++ (c ∷ [])) ≤ load P d (p ++ (c ∷ r))

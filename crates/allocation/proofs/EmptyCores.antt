@@ -1,10 +1,10 @@
--- Two empty cores may exchange their names, so the walk passes over redundant choices alone.
+-- Two empty twins may exchange their names, so the walk passes over redundant choices alone.
 use Prim.Native.Nat.{ℕ, zero, suc, pred, _+_, _≤_, _<_}
 use native.Mathlib.Nat.{le-of-eq}
 use native.Mathlib.Decide.{ℕ-discrete}
 use native.Mathlib.Omega.{arith}
 use mathlib.Core.Path.{_≡_, refl, sym, ap, _∙_}
-use mathlib.Core.Bool.{true, false, cond, _&&_, or-true, false≢true}
+use mathlib.Core.Bool.{Bool, true, false, cond, _&&_, xor, or-true, true≢false, false≢true}
 use mathlib.Core.List.{List, [], _∷_, _++_, map}
 use mathlib.Core.Logic.{_≢_, ⊎-elim, dite}
 use lib.Dec.{eqb}
@@ -12,10 +12,12 @@ use lib.ListN.{length, getD, drop, length-append, length-map}
 use borrow.Author.Tests.{eq-eqb, ne-eqb, eqb-true, not-false}
 use Rattle.numbers.specs.Loads.{demandOn}
 use Rattle.numbers.proofs.BoolLaws.{and-left, and-right, or-cases}
+use Rattle.numbers.proofs.FirstLaws.{first-zero, first-clear}
 use Rattle.numbers.proofs.LoadLaws.{demandOn-append}
-use Rattle.allocation.specs.Placement.{Problem, Feasible, load, rejected}
+use Rattle.allocation.specs.Placement.{Problem, Feasible, permits, load, rejected}
 use Rattle.allocation.specs.Best.{core-core}
-use Rattle.allocation.specs.Rule.{isEmpty, someEmpty, tried, Redundant}
+use Rattle.allocation.specs.Rule.{tellsApart, twins, areTwins, isEmpty, someEmptyTwin, tried, Redundant}
+use Rattle.allocation.specs.EntryRule.{Twins}
 use Rattle.allocation.proofs.Complete.{choice-within}
 
 -- ---- two numbers exchanged
@@ -73,13 +75,13 @@ each-after f Q h (x ∷ p) r g (suc k) l = each-after f (λ j. Q (suc j)) (λ j.
 
 -- ---- two cores exchanged
 
--- Two cores that are empty after the choices p, and alike to every task.
+-- Two twins that are empty after the choices p.
 record Alike (P : Problem) (p : List ℕ) (c d : ℕ) : Type 0 where
   first : (1 ≤ c) × (c ≤ P .cores)
   second : (1 ≤ d) × (d ≤ P .cores)
   first-empty : load P c p ≡ 0
   second-empty : load P d p ≡ 0
-  permits : (k : ℕ) → k < length (P .demands) → P .permits k c ≡ P .permits k d
+  twins : Twins P c d
 
 module _ (P : Problem) (p : List ℕ) (c d : ℕ) (a : Alike P p c d) (r : List ℕ) where
   -- the placement with the two exchanged after p
@@ -103,9 +105,9 @@ module _ (P : Problem) (p : List ℕ) (c d : ℕ) (a : Alike P p c d) (r : List 
     whole = sizes;
     core = each-after (swap c d) (λ k x. x ≤ P .cores) (λ k. swap-keeps c d (λ x. x ≤ P .cores) (a .first .1) (a .second .1)) p r (f .core);
     permitted = λ k l.
-        each-after (swap c d) (λ j x. j < length (P .demands) → 1 ≤ x → P .permits j x ≡ true)
-        (λ j. swap-cases c d (λ x y. (j < length (P .demands) → 1 ≤ x → P .permits j x ≡ true) → j < length (P .demands) → 1 ≤ y → P .permits j y ≡ true)
-        (λ g n i. sym (a .permits j n) ∙ g n (a .first .0)) (λ g n i. a .permits j n ∙ g n (a .second .0)) (λ x n o g. g))
+        each-after (swap c d) (λ j x. j < length (P .demands) → 1 ≤ x → permits P j x ≡ true)
+        (λ j. swap-cases c d (λ x y. (j < length (P .demands) → 1 ≤ x → permits P j x ≡ true) → j < length (P .demands) → 1 ≤ y → permits P j y ≡ true)
+        (λ g n i. sym (a .twins j n) ∙ g n (a .first .0)) (λ g n i. a .twins j n ∙ g n (a .second .0)) (λ x n o g. g))
         p r (λ j i n. f .permitted j i) k l (omega (arith, sizes));
     fits = λ x i j. rw (load-swapped x) (f .fits (swap c d x) (swap-keeps c d (λ y. 1 ≤ y) (a .first .0) (a .second .0) x i)
         (swap-keeps c d (λ y. y ≤ P .cores) (a .first .1) (a .second .1) x j));
@@ -114,54 +116,86 @@ module _ (P : Problem) (p : List ℕ) (c d : ℕ) (a : Alike P p c d) (r : List 
       sizes : length (p ++ map (swap c d) r) ≡ length (P .demands)
       sizes = length-append p (map (swap c d) r) ∙ rw (length-map r (swap c d)) (sym (length-append p r) ∙ f .whole)
 
+-- ---- twins
+
+xor-none : (a b : Bool) → xor a b ≡ false → a ≡ b
+unfolding xor
+xor-none true true e = refl
+xor-none true false e = absurd (true≢false e)
+xor-none false true e = absurd (true≢false e)
+xor-none false false e = refl
+
+xor-same : (a : Bool) → xor a a ≡ false
+unfolding xor
+xor-same true = refl
+xor-same false = refl
+
+module _ (P : Problem) (c d : ℕ) where
+  -- the test of two cores is that each task permits both or neither
+  pub twins-so : areTwins P c d ≡ true → Twins P c d
+  unfolding twins
+  twins-so e k h = xor-none _ _ (first-zero (tellsApart (P .affinity) c d) (length (P .demands)) (eqb-true _ 0 e) k h)
+
+  pub so-twins : Twins P c d → areTwins P c d ≡ true
+  unfolding twins
+  so-twins t =
+      eq-eqb _ 0 (first-clear (tellsApart (P .affinity) c d) (length (P .demands)) (λ k h. rw (t k h) (xor-same (permits P k d))))
+
 -- ---- the rule
 
--- one of the cores 1 to k is empty exactly if the test says so
-some-empty : (P : Problem) (p : List ℕ) (k : ℕ) → someEmpty P p k ≡ true → (d : ℕ) × (1 ≤ d) × (d ≤ k) × (load P d p ≡ 0)
-unfolding someEmpty isEmpty
-some-empty P p zero e = absurd (false≢true e)
-some-empty P p (suc k) e =
-    ⊎-elim (λ q. (suc k, omega arith, omega arith, eqb-true _ _ q))
-    (λ q. let x = some-empty P p k q in (x .0, x .1, omega (arith, x .2), x .3))
-    (or-cases (isEmpty P p (suc k)) (someEmpty P p k) e)
+-- one of the cores 1 to k is empty and a twin of core c exactly if the test says so
+some-empty : (P : Problem) (p : List ℕ) (c k : ℕ) → someEmptyTwin P p c k ≡ true
+    → (d : ℕ) × (1 ≤ d) × (d ≤ k) × (load P d p ≡ 0) × Twins P c d
+unfolding someEmptyTwin isEmpty
+some-empty P p c zero e = absurd (false≢true e)
+some-empty P p c (suc k) e =
+    ⊎-elim (λ q. (
+      suc k,
+      omega arith,
+      omega arith,
+      eqb-true _ _ (and-left (isEmpty P p (suc k)) (areTwins P c (suc k)) q),
+      twins-so P c (suc k) (and-right (isEmpty P p (suc k)) (areTwins P c (suc k)) q),
+    ))
+    (λ q. let x = some-empty P p c k q in (x .0, x .1, omega (arith, x .2), x .3, x .4))
+    (or-cases (isEmpty P p (suc k) && areTwins P c (suc k)) (someEmptyTwin P p c k) e)
 
-empty-among : (P : Problem) (p : List ℕ) (d : ℕ) → load P d p ≡ 0 → 1 ≤ d → (k : ℕ) → d ≤ k → someEmpty P p k ≡ true
-unfolding someEmpty isEmpty
-empty-among P p d e i zero l = absurd (omega arith)
-empty-among P p d e i (suc k) l =
-    dite (ℕ-discrete d (suc k)) (λ (q : d ≡ suc k). rw (← q, eq-eqb _ 0 e)) (λ n. rw (empty-among P p d e i k (omega arith), or-true))
+empty-among : (P : Problem) (p : List ℕ) (c d : ℕ) → load P d p ≡ 0 → Twins P c d → 1 ≤ d → (k : ℕ) → d ≤ k → someEmptyTwin P p c k ≡ true
+unfolding someEmptyTwin isEmpty
+empty-among P p c d e t i zero l = absurd (omega arith)
+empty-among P p c d e t i (suc k) l =
+    dite (ℕ-discrete d (suc k)) (λ (q : d ≡ suc k). rw (← q, eq-eqb _ 0 e, so-twins P c d t))
+    (λ n. rw (empty-among P p c d e t i k (omega arith), or-true))
 
--- A choice that the walk passes over: an empty core, and a lower one that is empty too.
+-- A choice that the walk passes over: an empty core, and a lower empty core that is its twin.
 pub record Passed (P : Problem) (p : List ℕ) (c : ℕ) : Type 0 where
   pub lower : ℕ
   pub below : (1 ≤ lower) × (lower < c)
   pub empty : load P c p ≡ 0
   pub lower-empty : load P lower p ≡ 0
+  pub twins : Twins P c lower
 
 module _ (P : Problem) (p : List ℕ) (c : ℕ) where
   pub passed-over : tried P p c ≡ false → Passed P p c
   unfolding tried isEmpty
   passed-over e =
-      let both = not-false (isEmpty P p c && someEmpty P p (pred c)) e in
-      let x = some-empty P p (pred c) (and-right (isEmpty P p c) (someEmpty P p (pred c)) both) in
+      let both = not-false (isEmpty P p c && someEmptyTwin P p c (pred c)) e in
+      let x = some-empty P p c (pred c) (and-right (isEmpty P p c) (someEmptyTwin P p c (pred c)) both) in
       record {
         lower = x .0;
         below = (x .1, omega (arith, x .1, x .2));
-        empty = eqb-true _ _ (and-left (isEmpty P p c) (someEmpty P p (pred c)) both);
+        empty = eqb-true _ _ (and-left (isEmpty P p c) (someEmptyTwin P p c (pred c)) both);
         lower-empty = x .3;
+        twins = x .4;
       }
 
   pub not-tried : Passed P p c → tried P p c ≡ false
   unfolding tried isEmpty
-  not-tried x = rw (eq-eqb _ 0 (x .empty), empty-among P p (x .lower) (x .lower-empty) (x .below .0) (pred c) (omega (arith, x .below)))
+  not-tried x =
+      rw (eq-eqb _ 0 (x .empty), empty-among P p c (x .lower) (x .lower-empty) (x .twins) (x .below .0) (pred c) (omega (arith, x .below)))
 
--- no task tells one core from another
-abbrev pub AlikeCores : Problem → Type 0
-AlikeCores P = (k c d : ℕ) → P .permits k c ≡ P .permits k d
-
--- the walk passes over redundant choices alone: for one on an empty core there is the same on a lower empty core
-pub tried-redundant : (P : Problem) → AlikeCores P → Redundant P
-tried-redundant P alike p c r e f =
+-- the walk passes over redundant choices alone: for one on an empty core there is the same on a lower empty twin
+pub tried-redundant : (P : Problem) → Redundant P
+tried-redundant P p c r e f =
     let x = passed-over P p c e in
     let d = x .lower in
     let within = choice-within P p c r f in
@@ -170,7 +204,7 @@ tried-redundant P alike p c r e f =
       second = (x .below .0, omega (arith, x .below));
       first-empty = x .empty;
       second-empty = x .lower-empty;
-      permits = λ k h. alike k c d;
+      twins = x .twins;
     } in
     record {
       choice = d;

@@ -29,8 +29,8 @@ module _ (P : Problem) (positive : (k : ℕ) → k < length (P .demands) → 1 �
         record {
           fits = λ i. let f = core-fits P p c (entered-fits P p c b e) i in (f .0, omega (arith, f .1, loaded));
           improves = (omega arith, omega arith);
-          lowest = λ h d i l g. true≢false (sym (entered-tried P p c b e) ∙ not-tried P p c
-              (record { lower = d; below = (i, l); empty = unused-none c (P .demands) p h; lower-empty = unused-none d (P .demands) p g }));
+          lowest = λ h d i l t g. true≢false (sym (entered-tried P p c b e) ∙ not-tried P p c
+              (record { lower = d; below = (i, l); empty = unused-none c (P .demands) p h; lower-empty = unused-none d (P .demands) p g; twins = t }));
         }
 
     entered-so : Enters P p c b → entered P p c b ≡ true
@@ -44,7 +44,7 @@ module _ (P : Problem) (positive : (k : ℕ) → k < length (P .demands) → 1 �
 
         looks : tried P p c ≡ true
         looks = ⊎-elim (λ t. t)
-            (λ t. let y = passed-over P p c t in absurd (x .lowest (none c (y .empty)) (y .lower) (y .below .0) (y .below .1) (none (y .lower) (y .lower-empty))))
+            (λ t. let y = passed-over P p c t in absurd (x .lowest (none c (y .empty)) (y .lower) (y .below .0) (y .below .1) (y .twins) (none (y .lower) (y .lower-empty))))
             (true-or-false (tried P p c))
 
   pub entry-rule : EntryRule P

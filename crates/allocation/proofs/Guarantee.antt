@@ -16,10 +16,10 @@ use Rattle.allocation.specs.TableOrder.{inPlanningOrder, BestPlan, table
 use Rattle.allocation.specs.Guarantee.{Guarantee}
 use Rattle.allocation.proofs.Steps.{last-stored}
 use Rattle.allocation.proofs.Optimal.{none, stored-feasible, stored-best, full-iff}
-use Rattle.allocation.proofs.EmptyCores.{AlikeCores, tried-redundant}
+use Rattle.allocation.proofs.EmptyCores.{tried-redundant}
 use Rattle.allocation.proofs.Reorder.{inPlanningOrder-long, feasible-scatter, rejected-scatter, best-scatter}
 
-module _ (T : Problem) (alike : AlikeCores T) (order : List ℕ) (perm : Permutation (length (T .demands)) order)
+module _ (T : Problem) (order : List ℕ) (perm : Permutation (length (T .demands)) order)
     (positive : (k : ℕ) → k < length (T .demands) → 1 ≤ getD (T .demands) k 0) (limit : ℕ) where
   abbrev P : Problem
   P = inPlanningOrder T order
@@ -32,7 +32,7 @@ module _ (T : Problem) (alike : AlikeCores T) (order : List ℕ) (perm : Permuta
   made = take limit (trace P)
 
   best : length (trace P) ≤ limit → BestPlan T order placed
-  best h = best-scatter T order perm (stored P limit) (stored-best P (tried-redundant P (λ k. alike (getD order k 0))) limit h)
+  best h = best-scatter T order perm (stored P limit) (stored-best P (tried-redundant P) limit h)
 
   rejects : rejected P (stored P limit) ≡ rejected T placed
   rejects = sym (rejected-scatter T order perm (stored P limit) (stored-feasible P limit))

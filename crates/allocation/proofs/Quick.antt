@@ -5,7 +5,7 @@ use mathlib.Core.Path.{_≡_, sym, ap, _∙_}
 use mathlib.Core.Bool.{false}
 use mathlib.Core.List.{List}
 use lib.Dec.{ltb}
-use lib.ListN.{length, getD}
+use lib.ListN.{length}
 use lib.Seq.{take-all}
 use borrow.Author.Tests.{le-ltb}
 use Rattle.numbers.specs.Sorting.{Permutation}
@@ -17,11 +17,11 @@ use Rattle.allocation.specs.TableOrder.{inPlanningOrder, tableAnswer}
 use Rattle.allocation.specs.FirstFit.{firstFit, tableFit, FirstDescent, QuickGuarantee}
 use Rattle.allocation.proofs.Optimal.{none, stored-falls}
 use Rattle.allocation.proofs.Reorder.{inPlanningOrder-long, feasible-long, feasible-scatter, rejected-scatter}
-use Rattle.allocation.proofs.EmptyCores.{AlikeCores, tried-redundant}
+use Rattle.allocation.proofs.EmptyCores.{tried-redundant}
 use Rattle.allocation.proofs.FirstFit.{first-feasible, first-lowest, first-only}
 use Rattle.allocation.proofs.Descent.{first-descent}
 
-module _ (T : Problem) (alike : AlikeCores T) (order : List ℕ) (perm : Permutation (length (T .demands)) order) where
+module _ (T : Problem) (order : List ℕ) (perm : Permutation (length (T .demands)) order) where
   abbrev P : Problem
   P = inPlanningOrder T order
 
@@ -32,7 +32,7 @@ module _ (T : Problem) (alike : AlikeCores T) (order : List ℕ) (perm : Permuta
   long = inPlanningOrder-long T order perm
 
   descends : FirstDescent P
-  descends = first-descent P (tried-redundant P (λ k. alike (getD order k 0)))
+  descends = first-descent P (tried-redundant P)
 
   rejects : rejected T (tableFit T order) ≡ rejected P (firstFit P)
   unfolding tableFit

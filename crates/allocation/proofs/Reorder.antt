@@ -10,8 +10,9 @@ use Rattle.numbers.specs.Sorting.{Permutation}
 use Rattle.numbers.specs.Reorder.{gather, position, scatter}
 use Rattle.numbers.proofs.SortingLaws.{permutation-below}
 use Rattle.numbers.proofs.ReorderLaws.{order-long, position-of, getD-gather, gather-long, scatter-long, gather-scatter, scatter-gather, demandOn-gather, demandOn-scatter}
-use Rattle.allocation.specs.Placement.{Problem, Feasible, rejected, load}
+use Rattle.allocation.specs.Placement.{Problem, permits, Feasible, rejected, load}
 use Rattle.allocation.specs.Best.{IsBest}
+use Rattle.allocation.specs.EntryRule.{Twins}
 use Rattle.allocation.specs.TableOrder.{inPlanningOrder, BestPlan}
 
 module _ (T : Problem) (order : List ℕ) (perm : Permutation (length (T .demands)) order) where
@@ -36,7 +37,9 @@ module _ (T : Problem) (order : List ℕ) (perm : Permutation (length (T .demand
   feasible-gather q f = record {
     whole = gather-long n order perm q ∙ sym (gather-long n order perm (T .demands));
     core = λ k l. rw (getD-gather order q k (here k l)) (f .core (getD order k 0) (task k l));
-    permitted = λ k l i. rw (getD-gather order q k (here k l)) (f .permitted (getD order k 0) (task k l) (rw (getD-gather order q k (here k l)) at i));
+    permitted = λ k l i.
+        rw (getD-gather order q k (here k l), getD-gather order (T .affinity) k (here k l))
+        (f .permitted (getD order k 0) (task k l) (rw (getD-gather order q k (here k l)) at i));
     fits = λ c i j. rw (load-gathered c q (f .whole)) (f .fits c i j);
   }
     where
@@ -50,8 +53,8 @@ module _ (T : Problem) (order : List ℕ) (perm : Permutation (length (T .demand
   feasible-back q e f = record {
     whole = e;
     core = λ t l. rw (at t l) at (f .core (position order t) (place t l));
-    permitted = λ t l i. subst (λ (s : ℕ). T .permits s (getD q t 0) ≡ true) (where-is t l .1)
-        (rw (at t l) at (f .permitted (position order t) (place t l) (rw (at t l) i)));
+    permitted = λ t l i. subst (λ (s : ℕ). permits T s (getD q t 0) ≡ true) (where-is t l .1)
+        (rw (at t l, getD-gather order (T .affinity) (position order t) (where-is t l .0)) at (f .permitted (position order t) (place t l) (rw (at t l) i)));
     fits = λ c i j. rw (load-gathered c q e) at (f .fits c i j);
   }
     where
@@ -63,6 +66,17 @@ module _ (T : Problem) (order : List ℕ) (perm : Permutation (length (T .demand
 
       at : (t : ℕ) → t < length q → getD (gather order q) (position order t) 0 ≡ getD q t 0
       at t l = getD-gather order q (position order t) (where-is t l .0) ∙ ap (λ (s : ℕ). getD q s 0) (where-is t l .1)
+
+  -- two cores are twins by the tasks in planning order exactly if they are by those of the table
+  pub twins-gather : (c d : ℕ) → Twins T c d → Twins (inPlanningOrder T order) c d
+  twins-gather c d t k l =
+      let b : k < length order = omega (arith, inPlanningOrder-long, order-long n order perm) in
+      rw (getD-gather order (T .affinity) k b) (t (getD order k 0) (permutation-below n order perm k b))
+
+  pub twins-back : (c d : ℕ) → Twins (inPlanningOrder T order) c d → Twins T c d
+  twins-back c d t k l =
+      let w = position-of n order perm k l in
+      rw (getD-gather order (T .affinity) (position order k) (w .0), w .1) at (t (position order k) (omega (arith, w .0, inPlanningOrder-long, order-long n order perm)))
 
   -- a placement of every task in planning order
   module _ (p : List ℕ) (f : Feasible (inPlanningOrder T order) p) where

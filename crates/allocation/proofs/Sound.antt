@@ -11,7 +11,7 @@ use lib.ListN.{length, getD, length-append, List·getD-append}
 use lib.Seq.{getD-append-seam}
 use borrow.Author.Count.{below-more}
 use borrow.Author.Tests.{ltb-true, le-ltb, leb-true, le-leb, ne-eqb}
-use Rattle.allocation.specs.Placement.{Problem, Feasible, rejected, load, excess}
+use Rattle.allocation.specs.Placement.{Problem, permits, Feasible, rejected, load, excess}
 use Rattle.numbers.proofs.BoolLaws.{and-left, and-right, and-intro}
 use Rattle.numbers.proofs.LoadLaws.{demandOn-other, demandOn-mono}
 use Rattle.allocation.specs.Rule.{tried}
@@ -22,7 +22,7 @@ use Rattle.allocation.proofs.Steps.{Leaves, leaves-append, Falling}
 -- the beginning of a placement that may still become feasible
 pub record Partial (P : Problem) (p : List ℕ) : Type 0 where
   pub core : (k : ℕ) → k < length p → getD p k 0 ≤ P .cores
-  pub permitted : (k : ℕ) → k < length p → 1 ≤ getD p k 0 → P .permits k (getD p k 0) ≡ true
+  pub permitted : (k : ℕ) → k < length p → 1 ≤ getD p k 0 → permits P k (getD p k 0) ≡ true
   pub fits : (c : ℕ) → 1 ≤ c → c ≤ P .cores → load P c p ≤ P .capacity
 
 -- a fact of each entry holds with one entry more
@@ -42,16 +42,16 @@ module _ (P : Problem) where
   partial-whole h e = record { whole = e; core = h .core; permitted = h .permitted; fits = h .fits }
 
   -- a core that the task may run on and that has room for it passes the test of a choice
-  pub fits-so : (p : List ℕ) (c : ℕ) → (1 ≤ c → (P .permits (length p) c ≡ true) × (load P c (p ++ (c ∷ [])) ≤ P .capacity)) → fits P p c ≡ true
+  pub fits-so : (p : List ℕ) (c : ℕ) → (1 ≤ c → (permits P (length p) c ≡ true) × (load P c (p ++ (c ∷ [])) ≤ P .capacity)) → fits P p c ≡ true
   fits-so p zero h = refl
   fits-so p (suc c) h =
       let f = h (omega arith) in rw (ne-eqb (suc c) 0 (λ q. omega arith)) (and-intro _ _ (f .0) (le-leb _ _ (f .1)))
 
   -- what the test says
   module _ (p : List ℕ) (c : ℕ) (e : fits P p c ≡ true) where
-    pub core-fits : 1 ≤ c → (P .permits (length p) c ≡ true) × (load P c (p ++ (c ∷ [])) ≤ P .capacity)
+    pub core-fits : 1 ≤ c → (permits P (length p) c ≡ true) × (load P c (p ++ (c ∷ [])) ≤ P .capacity)
     core-fits i =
-        let s = P .permits (length p) c in
+        let s = permits P (length p) c in
         let u = leb (load P c (p ++ (c ∷ []))) (P .capacity) in
         let g : (s && u) ≡ true = rw (ne-eqb c 0 (λ q. omega arith)) at e in
         (and-left s u g, leb-true _ _ (and-right s u g))
@@ -59,7 +59,7 @@ module _ (P : Problem) where
     pub partial-snoc : c ≤ P .cores → Partial P p → Partial P (p ++ (c ∷ []))
     partial-snoc l h = record {
       core = snoc-each (λ k x. x ≤ P .cores) p c (h .core) l;
-      permitted = snoc-each (λ k x. 1 ≤ x → P .permits k x ≡ true) p c (h .permitted) (λ i. core-fits i .0);
+      permitted = snoc-each (λ k x. 1 ≤ x → permits P k x ≡ true) p c (h .permitted) (λ i. core-fits i .0);
       fits = λ d i j.
           dite (ℕ-discrete c d) (λ q. rw (← q) (core-fits (omega arith) .1))
           (λ q. rw (demandOn-other d c q) (h .fits d i j));

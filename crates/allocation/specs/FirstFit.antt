@@ -6,7 +6,7 @@ use mathlib.Core.List.{List, [], _∷_, _++_}
 use lib.ListN.{length, getD, take}
 use Rattle.numbers.specs.First.{first}
 use Rattle.numbers.specs.Reorder.{gather, scatter}
-use Rattle.allocation.specs.Placement.{Problem, Feasible, load, rejected}
+use Rattle.allocation.specs.Placement.{Problem, permits, Feasible, load, rejected}
 use Rattle.allocation.specs.Walk.{fits, trace, stored}
 use Rattle.allocation.specs.TableOrder.{inPlanningOrder, tableAnswer}
 
@@ -32,7 +32,7 @@ tableFit T order = scatter order (firstFit (inPlanningOrder T order))
 -- the load is at most H.
 pub record Room (P : Problem) (p : List ℕ) (k c : ℕ) : Type 0 where
   pub number : (1 ≤ c) × (c ≤ P .cores)
-  pub permitted : P .permits k c ≡ true
+  pub permitted : permits P k c ≡ true
   pub enough : load P c (take k p) + getD (P .demands) k 0 ≤ P .capacity
 
 -- Task k is on the lowest core that has room for it, and left out exactly if none has.

@@ -5,6 +5,8 @@ use mathlib.Core.Bool.{Bool, true}
 use mathlib.Core.List.{List}
 use lib.ListN.{length, getD}
 use Rattle.numbers.specs.Loads.{demandOn, sum}
+use Rattle.numbers.specs.Rows.{entry}
+use Rattle.affinity.specs.Permitted.{permitted}
 
 -- What is planned. Tasks are counted from 0, in the order of their demands.
 pub record Problem : Type 0 where
@@ -14,16 +16,16 @@ pub record Problem : Type 0 where
   pub cores : ℕ
   -- each task's demand (the paper's weight)
   pub demands : List ℕ
-  -- whether a task may run on a core
-  pub permits : ℕ → ℕ → Bool
+  -- each task's core byte (its affinity)
+  pub affinity : List ℕ
 
--- a task may run on every core
-abbrev pub anyCore : ℕ → ℕ → Bool
-anyCore task core = true
+-- the problem that a capacity, a number of cores, the tasks' demands and their core bytes state
+abbrev pub problemOf : ℕ → ℕ → List ℕ → List ℕ → Problem
+problemOf capacity cores demands affinity = record { capacity = capacity; cores = cores; demands = demands; affinity = affinity }
 
--- the problem that a capacity, a number of cores and the tasks' demands state
-abbrev pub problemOf : ℕ → ℕ → List ℕ → Problem
-problemOf capacity cores demands = record { capacity = capacity; cores = cores; demands = demands; permits = anyCore }
+-- whether a task may run on a core
+abbrev pub permits : Problem → ℕ → ℕ → Bool
+permits P task core = permitted (entry (P .affinity) task) core
 
 -- A placement is the list of the tasks' choices: a core, 1 to m, or 0 for rejected (the paper's left out). A shorter list is the beginning of one.
 
@@ -48,7 +50,7 @@ module _ (P : Problem) where
 pub record Feasible (P : Problem) (p : List ℕ) : Type 0 where
   pub whole : length p ≡ length (P .demands)
   pub core : (k : ℕ) → k < length p → getD p k 0 ≤ P .cores
-  pub permitted : (k : ℕ) → k < length p → 1 ≤ getD p k 0 → P .permits k (getD p k 0) ≡ true
+  pub permitted : (k : ℕ) → k < length p → 1 ≤ getD p k 0 → permits P k (getD p k 0) ≡ true
   pub fits : (c : ℕ) → 1 ≤ c → c ≤ P .cores → load P c p ≤ P .capacity
 
 -- A full placement: every task has a core.

@@ -1,7 +1,6 @@
 -- The best plan and the walk's answer in table order. Tasks are counted from 0 as in the table; `order` lists them in planning order.
 use Prim.Native.Nat.{ℕ}
 use mathlib.Core.List.{List}
-use lib.ListN.{getD}
 use Rattle.numbers.specs.Reorder.{gather, scatter}
 use Rattle.allocation.specs.Placement.{Problem}
 use Rattle.allocation.specs.Best.{Before, BestBy}
@@ -13,7 +12,7 @@ inPlanningOrder T order = record {
   capacity = T .capacity;
   cores = T .cores;
   demands = gather order (T .demands);
-  permits = λ k c. T .permits (getD order k 0) c;
+  affinity = gather order (T .affinity);
 }
 
 -- one placement in table order comes before another: they are compared task by task in planning order

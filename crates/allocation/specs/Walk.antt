@@ -5,7 +5,7 @@ use mathlib.Core.Bool.{Bool, true, false, cond, _&&_, _||_}
 use mathlib.Core.List.{List, [], _∷_, _++_}
 use lib.Dec.{eqb, leb, ltb}
 use lib.ListN.{length, take, replicate}
-use Rattle.allocation.specs.Placement.{Problem, load, rejected, total, excess}
+use Rattle.allocation.specs.Placement.{Problem, permits, load, rejected, total, excess}
 use Rattle.allocation.specs.Rule.{tried}
 
 -- the n numbers from k upward
@@ -66,7 +66,7 @@ pub record WalkAnswer : Type 0 where
 module _ (P : Problem) where
   -- the next task may take choice c: it is left out, or core c is permitted and its load stays at most H
   abbrev pub fits : List ℕ → ℕ → Bool
-  fits p c = eqb c 0 || (P .permits (length p) c && leb (load P c (p ++ (c ∷ []))) (P .capacity))
+  fits p c = eqb c 0 || (permits P (length p) c && leb (load P c (p ++ (c ∷ []))) (P .capacity))
 
   -- the larger of the rejected demand, this choice included, and the excess is below the bound
   abbrev pub improves : List ℕ → ℕ → ℕ → Bool

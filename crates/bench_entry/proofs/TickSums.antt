@@ -1,12 +1,13 @@
 -- The steps of the loop that sums the tasks that ticks name.
-use Prim.Native.Nat.{ℕ, suc, _+_, _-_, _%_, _≤_, _<_}
+use Prim.Native.Nat.{ℕ, zero, suc, _+_, _-_, _%_, _≤_, _<_}
 use mathlib.Core.Path.{_≡_, refl, sym, _∙_, ap}
-use mathlib.Core.List.{List}
+use mathlib.Core.List.{List, _∷_}
 use lib.ListN.{take, replicate}
 use native.Mathlib.Omega.{arith}
 use native.Mathlib.Nat.{mod-lt}
 use borrow.Author.Tests.{lt-ltb, le-ltb}
-use Rattle.stored.specs.Form.{taskCount}
+use Rattle.affinity.specs.Permitted.{everyCore}
+use Rattle.stored.specs.Form.{taskCount, coreCount, everyAffinity}
 use Rattle.edf.specs.Tick.{TickAnswer, tick}
 use Rattle.runner.specs.declared.Core.{Core}
 use Rattle.runner.specs.Answers.{tickAnswer}
@@ -56,11 +57,23 @@ module _ {start : Core} {ticks : ℕ} {requests : List ℕ} {now : Core} {sum le
   unfolding sumOfTasks
   sum-done h = let e : left ≡ 0 = omega arith in ap (sumOfTasks sum (now .charge) (now .slots)) (sym e) ∙ s .is
 
-pub bench-many : (table : List ℕ) (charge ticks : ℕ) {n : ℕ} → n ≡ taskCount table → 16 < n → 0 ≡ benchSum table charge ticks
+pub bench-many : (table : List ℕ) (charge ticks : ℕ) {b n : ℕ} → b ≡ taskCount table → n ≡ b → 16 < n → 0 ≡ benchSum table charge ticks
 unfolding benchSum
-bench-many table charge ticks e h = rw (lt-ltb 16 (taskCount table) (omega arith))
+bench-many table charge ticks e i h = rw (lt-ltb 16 (taskCount table) (omega arith))
 
-pub bench-few : (table : List ℕ) (charge ticks : ℕ) {n r : ℕ} (started : Started) → n ≡ taskCount table → n ≤ 16
-    → started ≡ startOf table charge (take n (replicate 16 1)) 1 → r ≡ sumOfTasks 0 (started .core .charge) (started .core .slots) ticks → r ≡ benchSum table charge ticks
-unfolding benchSum
-bench-few table charge ticks started e h s q = rw (le-ltb 16 (taskCount table) (omega arith), ← e, ← s) q
+-- the front of a row of equal entries
+front-equal : (n k x : ℕ) → n ≤ k → take n (replicate k x) ≡ replicate n x
+front-equal zero k x h = refl
+front-equal (suc n) zero x h = absurd (omega arith)
+front-equal (suc n) (suc k) x h = ap (λ (l : List ℕ). x ∷ l) (front-equal n k x (omega arith))
+
+pub bench-few : (table : List ℕ) (charge ticks : ℕ) {b n c m byte r : ℕ} (started : Started) → b ≡ taskCount table → n ≡ b → n ≤ 16
+    → c ≡ coreCount table → m ≡ c → byte ≡ everyCore m → started ≡ startOf table charge (take n (replicate 16 byte)) (take n (replicate 16 1)) 1
+    → r ≡ sumOfTasks 0 (started .core .charge) (started .core .slots) ticks → r ≡ benchSum table charge ticks
+unfolding benchSum everyAffinity
+bench-few table charge ticks {n = n} {byte = byte} started e i h f j g s q =
+    let count : n ≡ taskCount table = i ∙ e in
+    let every : byte ≡ everyCore (coreCount table) = g ∙ ap everyCore (j ∙ f) in
+    let is : started ≡ startOf table charge (replicate (taskCount table) (everyCore (coreCount table))) (replicate (taskCount table) 1) 1 =
+    rw (← count, ← every, ← front-equal n 16 byte h, ← front-equal n 16 1 h) s in
+    rw (le-ltb 16 (taskCount table) (omega arith), ← is) q

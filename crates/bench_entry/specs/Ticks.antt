@@ -3,8 +3,8 @@ use Prim.Native.Nat.{ℕ, zero, suc, _+_, _%_}
 use mathlib.Core.List.{List}
 use mathlib.Core.Bool.{cond}
 use lib.Dec.{ltb}
-use lib.ListN.{take, replicate}
-use Rattle.stored.specs.Form.{taskCount}
+use lib.ListN.{replicate}
+use Rattle.stored.specs.Form.{taskCount, everyAffinity}
 use Rattle.edf.specs.declared.Slot.{Slot}
 use Rattle.edf.specs.Tick.{TickAnswer, tick}
 use Rattle.runner.specs.declared.Core.{Core}
@@ -25,8 +25,8 @@ sumOfTasks sum charge slots (suc ticks) =
     let a : TickAnswer = tick charge slots full in
     sumOfTasks (plus (plus sum (a .run)) (a .late)) (a .charge) (a .slots) ticks
 
--- the sum for a table with all its tasks on core 1 of a board with this charge; 0 for more than sixteen tasks
+-- the sum for a table with every core permitted, and all its tasks on core 1 of a board with this charge; 0 for more than sixteen tasks
 unfoldable pub benchSum : List ℕ → ℕ → ℕ → ℕ
 benchSum table charge ticks =
-    let core : Core = startOf table charge (take (taskCount table) (replicate 16 1)) 1 .core in
+    let core : Core = startOf table charge (everyAffinity table) (replicate (taskCount table) 1) 1 .core in
     cond (ltb 16 (taskCount table)) 0 (sumOfTasks 0 (core .charge) (core .slots) ticks)

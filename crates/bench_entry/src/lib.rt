@@ -5,12 +5,12 @@ ghost use Rattle.planner.specs.Plan.{planOf};
 ghost use Rattle.bench_entry.specs.Ticks.{plus as plusOf, sumOfTasks, benchSum};
 use runner::Core;
 
-// Plans a table on a board with this charge and returns the number of steps.
+// Plans a table on a board with this charge, with these core bytes, and returns the number of steps.
 #[no_mangle]
-pub extern "C" fn bench_search(table: &[u8], charge: u32, limit: u32) -> u32
-    ensures { λ r. ⌜ r ≡ planOf (now (table .entry)) charge limit .steps ⌝ }
+pub extern "C" fn bench_search(table: &[u8], charge: u32, cores: &[u8], limit: u32) -> u32
+    ensures { λ r. ⌜ r ≡ planOf (now (table .entry)) charge (now (cores .entry)) limit .steps ⌝ }
 {
-    planner::plan(table, charge, limit).steps
+    planner::plan(table, charge, cores, limit).steps
 }
 
 // A sum with one task more, in 32 bits.
@@ -40,17 +40,20 @@ fn sum_of_tasks(core: Core, ticks: u32) -> u64
     sum
 }
 
-// Runs a table's tasks, all on core 1 of a board with this charge, with full requests, and returns the sum of the tasks run and of the late tasks.
+// Runs a table's tasks, which may use every core, all on core 1 of a board with this charge, with full requests, and returns the sum of the
+// tasks run and of the late tasks.
 #[no_mangle]
 pub extern "C" fn bench_tick(table: &[u8], charge: u32, ticks: u32) -> u64
     ensures { λ r. ⌜ r ≡ benchSum (now (table .entry)) charge ticks ⌝ }
 {
-    let placement = [1u8; 16];
     let n = wire::size(wire::byte(table, 0));
     if 16 < n {
         return 0;
     }
-    let started = start::fresh(table, charge, &placement[..n], 1);
+    let byte = affinity::every_core(wire::size(wire::byte(table, 1)));
+    let every = [byte; 16];
+    let placement = [1u8; 16];
+    let started = start::fresh(table, charge, &every[..n], &placement[..n], 1);
     let core = started.core;
     sum_of_tasks(core, ticks)
 }

@@ -1,5 +1,6 @@
-// Code 3: a fresh core and its ticks. Blocks: the table, up to 1,024 bytes; the charge, 4 bytes; the placement, up to 1,024 bytes;
-// core number, 1 byte; tick count, 4 bytes; for each tick, also where the core is refused, sixteen requests, 64 bytes.
+// Code 3: a fresh core and its ticks. Blocks: the table, up to 1,024 bytes; the charge, 4 bytes; the core bytes, up to 1,024 bytes;
+// the placement, up to 1,024 bytes; core number, 1 byte; tick count, 4 bytes; for each tick, also where the core is refused, sixteen requests,
+// 64 bytes.
 ghost use mathlib.Core.Path.{_≡_};
 ghost use Rattle.text.specs.Shown.{shown};
 ghost use Rattle.cases.specs.Lines.{coreLine, tickLine};

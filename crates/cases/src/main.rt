@@ -42,24 +42,24 @@ fn run_table(table: &[u8]) -> bool {
 }
 
 // Reads a limit and prints the plan's line; false where the case is not whole or the output fails.
-fn run_plan(table: &[u8], charge: u32) -> bool {
+fn run_plan(table: &[u8], charge: u32, cores: &[u8]) -> bool {
     let limit = read_number();
     if !limit.whole {
         return false;
     }
-    let plan = planner::plan(table, charge, limit.value);
+    let plan = planner::plan(table, charge, cores, limit.value);
     console::show(plans::plan_line(plan)).whole
 }
 
 // Prints the quick plan's line; false where the output fails.
-fn run_quick(table: &[u8], charge: u32) -> bool {
-    let plan = quick::quick_plan(table, charge);
+fn run_quick(table: &[u8], charge: u32, cores: &[u8]) -> bool {
+    let plan = quick::quick_plan(table, charge, cores);
     console::show(quicks::quick_line(plan)).whole
 }
 
 // Prints the step ceiling's line; false where the output fails.
-fn run_ceiling(table: &[u8], charge: u32) -> bool {
-    let answer = ceiling::step_ceiling(table, charge);
+fn run_ceiling(table: &[u8], charge: u32, cores: &[u8]) -> bool {
+    let answer = ceiling::step_ceiling(table, charge, cores);
     console::show(ceilings::ceiling_line(answer)).whole
 }
 
@@ -94,7 +94,7 @@ fn is_accepted(outcome: Outcome) -> bool {
 }
 
 // Reads core number and tick count, prints the core's line and runs its ticks; false where the case is not whole or the output fails.
-fn run_started(table: &[u8], charge: u32, placement: &[u8]) -> bool {
+fn run_started(table: &[u8], charge: u32, cores: &[u8], placement: &[u8]) -> bool {
     let mut number = [0u8; 1];
     if !read_exact(&mut number) {
         return false;
@@ -103,7 +103,7 @@ fn run_started(table: &[u8], charge: u32, placement: &[u8]) -> bool {
     if !count.whole {
         return false;
     }
-    let started = start::fresh(table, charge, placement, number[0]);
+    let started = start::fresh(table, charge, cores, placement, number[0]);
     if !console::show(cores::core_line(started)).whole {
         return false;
     }
@@ -112,14 +112,14 @@ fn run_started(table: &[u8], charge: u32, placement: &[u8]) -> bool {
 }
 
 // Reads a placement and runs the core; false where the case is not whole or the output fails.
-fn run_core(table: &[u8], charge: u32) -> bool {
+fn run_core(table: &[u8], charge: u32, cores: &[u8]) -> bool {
     let mut placement = [0u8; 1024];
     let block = blocks::read_block(&mut placement);
     if !block.whole {
         return false;
     }
     let n = block.length;
-    run_started(table, charge, &placement[..n])
+    run_started(table, charge, cores, &placement[..n])
 }
 
 // Reads a charge, slots and sixteen requests and prints the tick's line; false where the case is not whole or the output fails.
@@ -144,15 +144,27 @@ fn run_record() -> bool {
     console::show(records::record_line(core.tick(blocks::numbers_of(&requests)))).whole
 }
 
-// Runs a case whose first blocks were this table and this charge; false where there is no such code, the case is not whole, or the output fails.
-fn run_charged(code: u8, table: &[u8], charge: u32) -> bool {
+// Runs a case whose first blocks were this table, this charge and these core bytes; false where there is no such code, the case is not
+// whole, or the output fails.
+fn run_permitted(code: u8, table: &[u8], charge: u32, cores: &[u8]) -> bool {
     match code {
-        2 => run_plan(table, charge),
-        3 => run_core(table, charge),
-        5 => run_quick(table, charge),
-        6 => run_ceiling(table, charge),
+        2 => run_plan(table, charge, cores),
+        3 => run_core(table, charge, cores),
+        5 => run_quick(table, charge, cores),
+        6 => run_ceiling(table, charge, cores),
         _ => false,
     }
+}
+
+// Reads core bytes and runs a case whose first blocks were this table and this charge; false where the case is not whole or fails.
+fn run_charged(code: u8, table: &[u8], charge: u32) -> bool {
+    let mut cores = [0u8; 1024];
+    let block = blocks::read_block(&mut cores);
+    if !block.whole {
+        return false;
+    }
+    let n = block.length;
+    run_permitted(code, table, charge, &cores[..n])
 }
 
 // Reads a charge and runs a case whose first block was this table; false where the case is not whole or fails.

@@ -1,16 +1,30 @@
 -- The step ceiling keeps what is promised of it, and is accepted exactly for valid tables.
-use Prim.Native.Nat.{ℕ, _≤_}
+use Prim.Native.Nat.{ℕ, pred, _+_, _≤_, _<_, min}
+use native.Mathlib.Nat.{le-trans, le-of-eq}
 use native.Mathlib.Omega.{arith}
-use mathlib.Core.Path.{_≡_, refl, _∙_, ap}
+use mathlib.Core.Path.{_≡_, refl, sym, _∙_, ap}
+use mathlib.Core.Bool.{Bool, true, false, not, true≢false}
 use mathlib.Core.List.{List}
-use mathlib.Core.Logic.{inl, inr, _≢_}
+use mathlib.Core.Logic.{inl, inr, _≢_, ⊎-elim}
+use lib.Dec.{eqb}
 use lib.ListN.{length}
+use borrow.Author.Tests.{eq-eqb, eqb-true, not-false}
+use Rattle.numbers.specs.Reorder.{position}
+use Rattle.numbers.specs.Rows.{tab, entry}
+use Rattle.numbers.proofs.BoolLaws.{true-or-false}
+use Rattle.numbers.proofs.FirstLaws.{first-zero, first-clear}
+use Rattle.numbers.proofs.RowLaws.{getD-tab}
+use Rattle.numbers.proofs.SortingLaws.{permutation-below}
+use Rattle.numbers.proofs.ReorderLaws.{order-long, position-of, getD-gather}
+use Rattle.affinity.specs.Permitted.{permitted, permittedCount, CoreByte}
+use Rattle.affinity.proofs.PermittedLaws.{count-grows, count-within, count-full, full-count}
 use Rattle.refusal.specs.Causes.{numberIn}
 use Rattle.refusal.specs.Conditions.{Decides}
 use Rattle.refusal.proofs.ConditionLaws.{decides, accepts}
 use Rattle.refusal.specs.declared.Cause.{Cause}
 use Rattle.refusal.specs.declared.Outcome.{Outcome}
 use Rattle.refusal.specs.declared.Outcome.the-variants as outcome
+use Rattle.taskset.specs.Fields.{affinityAt}
 use Rattle.taskset.specs.Limits.{Within}
 use Rattle.taskset.specs.declared.Fields.{Fields}
 use Rattle.taskset.specs.declared.Reading.{Reading}
@@ -18,31 +32,129 @@ use Rattle.stored.specs.Form.{fieldsOf, taskCount, coreCount}
 use Rattle.stored.specs.Tests.{tableOutcome, readingOf}
 use Rattle.stored.specs.Limits.{Valid, conditions}
 use Rattle.stored.proofs.TableLaws.{table-tested, read-outcome}
+use Rattle.allocation.specs.Placement.{Problem}
 use Rattle.allocation.specs.TableOrder.{inPlanningOrder}
-use Rattle.allocation.proofs.Ceiling.{walk-steps}
+use Rattle.allocation.proofs.Ceiling.{AllTwins, walk-steps, permitted-steps}
 use Rattle.allocation.proofs.Reorder.{inPlanningOrder-long}
 use Rattle.planner.specs.Problem.{tableProblem, orderOf}
 use Rattle.planner.specs.Plan.{planFor, refusedPlan, planBy, planOf}
 use Rattle.planner.specs.Promise.{walkOf}
 use Rattle.planner.specs.declared.Verdict.the-variants.{Spent}
 use Rattle.planner.proofs.PlanLaws.{fields-are}
-use Rattle.planner.proofs.PromiseLaws.{demands-long, order-permutation, promised}
-use Rattle.ceiling.specs.Ceiling.{stepCeiling, ceilingBy, ceilingOf}
-use Rattle.ceiling.specs.Promise.{Promise, Few}
+use Rattle.planner.proofs.PromiseLaws.{demands-long, stated-order, order-permutation, promised}
+use Rattle.ceiling.specs.Ceiling.{coresOf, someTied, factorFor, sumOfProducts, plannedBytes, stepCeiling, ceilingBy, ceilingOf}
+use Rattle.ceiling.specs.Promise.{Free, permittedTo, Ceils, Promise, freeCeiling, Few}
 use Rattle.ceiling.specs.declared.StepCeiling.{StepCeiling}
-use Rattle.ceiling.proofs.SumLaws.{ceiling-grows, usual-ceilings}
+use Rattle.ceiling.proofs.SumLaws.{sums-cong, sums-mono, ceiling-grows, usual-ceilings}
 
 -- ---- fields within the limits
 
 module _ (f : Fields) (w : Within f) where
-  steps-within : length (walkOf f) ≤ stepCeiling (f .m) (f .n)
-  unfolding stepCeiling tableProblem
-  steps-within =
-      let e = inPlanningOrder-long (tableProblem f) (orderOf f) (order-permutation f w) ∙ demands-long f w in
-      rw e at (walk-steps (inPlanningOrder (tableProblem f) (orderOf f)))
+  abbrev P : Problem
+  P = inPlanningOrder (tableProblem f) (orderOf f)
 
-  never-spent : (limit : ℕ) → stepCeiling (f .m) (f .n) ≤ limit → planFor f limit .verdict ≢ Spent
+  abbrev n : ℕ
+  n = f .n
+
+  abbrev m : ℕ
+  m = f .m
+
+  order-tasks : length (orderOf f) ≡ n
+  order-tasks = order-long n (orderOf f) (stated-order f w .1)
+
+  problem-long : length (P .demands) ≡ n
+  problem-long = inPlanningOrder-long (tableProblem f) (orderOf f) (order-permutation f w) ∙ demands-long f w
+
+  -- the core byte of the task at j in planning order is that of a task of the table
+  byte-is : (j : ℕ) → j < n → (entry (orderOf f) j < n) × (entry (plannedBytes f) j ≡ affinityAt f (entry (orderOf f) j))
+  byte-is j h =
+      let below = permutation-below n (orderOf f) (stated-order f w .1) j (omega (arith, order-tasks)) in
+      (below, getD-gather (orderOf f) (tab n (affinityAt f)) j (omega (arith, order-tasks)) ∙ getD-tab 0 n (affinityAt f) (entry (orderOf f) j) below)
+
+  fit : (j : ℕ) → j < n → CoreByte m (entry (plannedBytes f) j)
+  fit j h = let b = byte-is j h in rw (b .1) (w .affinities (entry (orderOf f) j) (b .0))
+
+  -- its ones are the cores of the table that it permits
+  cores-are : (j : ℕ) → j < n → coresOf (plannedBytes f) j ≡ permittedCount (entry (plannedBytes f) j) m
+  cores-are j h = count-within m (entry (plannedBytes f) j) 8 (omega (arith, w .sizes .cores)) (fit j h)
+
+  -- ---- whether some task is tied
+
+  abbrev tied : Bool
+  tied = someTied (plannedBytes f) n m
+
+  -- none is: every task permits every core
+  module _ (e : tied ≡ false) where
+    all-permitted : (j : ℕ) → j < n → (core : ℕ) → 1 ≤ core → core ≤ m → permitted (entry (plannedBytes f) j) core ≡ true
+    unfolding someTied
+    all-permitted j h =
+        let none = first-zero (λ k. not (eqb (coresOf (plannedBytes f) k) m)) n (eqb-true _ 0 (not-false _ e)) j h in
+        count-full (entry (plannedBytes f) j) m (sym (cores-are j h) ∙ eqb-true _ m (not-false _ none))
+
+    all-twins : AllTwins P
+    unfolding tableProblem
+    all-twins c d i j k l t h =
+        let b : t < n = omega (arith, problem-long) in
+        all-permitted t b c k i ∙ sym (all-permitted t b d l j)
+
+  -- some is: a task does not permit a core
+  one-tied : (k : ℕ) → k < n → (core : ℕ) → 1 ≤ core → core ≤ m → permitted (affinityAt f k) core ≡ false → tied ≡ true
+  one-tied k h core i l q =
+      ⊎-elim (λ t. t)
+      (λ e. let x = position-of n (orderOf f) (stated-order f w .1) k h in
+      let j : position (orderOf f) k < n = omega (arith, x .0, order-tasks) in
+      absurd (true≢false (sym (all-permitted e (position (orderOf f) k) j core i l) ∙ rw (byte-is (position (orderOf f) k) j .1, x .1) q)))
+      (true-or-false tied)
+
+  none-tied : Free f → tied ≡ false
+  unfolding someTied
+  none-tied free =
+      rw (first-clear (λ k. not (eqb (coresOf (plannedBytes f) k) m)) n
+      (λ j h. let b = byte-is j h in rw (eq-eqb _ m (cores-are j h ∙ full-count _ m (λ core i l. rw (b .1) (free (entry (orderOf f) j) (b .0) core i l))))))
+
+  -- ---- the factors
+
+  tied-factor : tied ≡ true → (j : ℕ) → 1 ≤ j → j ≤ n → factorFor tied (plannedBytes f) m j ≡ permittedTo f j + 1
+  unfolding factorFor permittedCount
+  tied-factor e j i h =
+      let b : pred j < n = omega arith in
+      rw e (ap (λ (x : ℕ). x + 1) (cores-are (pred j) b ∙ ap (λ (byte : ℕ). permittedCount byte m) (byte-is (pred j) b .1)))
+
+  free-factor : tied ≡ false → (j : ℕ) → factorFor tied (plannedBytes f) m j ≡ min j m + 1
+  unfolding factorFor
+  free-factor e j = rw e
+
+  steps-within : length (walkOf f) ≤ stepCeiling f
+  unfolding stepCeiling sumOfProducts tableProblem
+  steps-within =
+      ⊎-elim
+      (λ e. le-trans (rw problem-long at (permitted-steps P))
+      (sums-mono (λ j. permittedCount (entry (plannedBytes f) (pred j)) m + 1) (factorFor tied (plannedBytes f) m) n
+      (λ j i h. rw (tied-byte e j) (omega (arith, count-grows (entry (plannedBytes f) (pred j)) m 8 (omega (arith, w .sizes .cores)))))))
+      (λ e. le-trans (rw problem-long at (walk-steps P (all-twins e)))
+      (le-of-eq (sums-cong (λ j. min j m + 1) (factorFor tied (plannedBytes f) m) n (λ j i h. sym (free-factor e j)))))
+      (true-or-false tied)
+    where
+      tied-byte : tied ≡ true → (j : ℕ) → factorFor tied (plannedBytes f) m j ≡ coresOf (plannedBytes f) (pred j) + 1
+      tied-byte e j = unfold factorFor in rw e
+
+  pub ceils : Ceils f (stepCeiling f)
+  unfolding stepCeiling sumOfProducts
+  ceils = record {
+    free = λ free. sums-cong _ (λ j. min j m + 1) n (λ j i h. free-factor (none-tied free) j);
+    tied = λ t. sums-cong _ (λ j. permittedTo f j + 1) n (tied-factor (one-tied (t .0) (t .1) (t .2) (t .3) (t .4) (t .5)));
+    ordered = stated-order f w;
+    steps = steps-within;
+  }
+
+  never-spent : (limit : ℕ) → stepCeiling f ≤ limit → planFor f limit .verdict ≢ Spent
   never-spent limit h e = omega (arith, steps-within, promised f w limit .spent .0 e)
+
+-- what the code adds up is the ceiling
+pub ceiling-is : (f : Fields) {l : List ℕ} → l ≡ plannedBytes f → {t : Bool} → t ≡ someTied l (f .n) (f .m)
+    → {x : ℕ} → x ≡ sumOfProducts (factorFor t l (f .m)) (f .n) → x ≡ stepCeiling f
+unfolding stepCeiling
+ceiling-is f e u w = w ∙ rw (u, e)
 
 -- ---- a table
 
@@ -52,40 +164,38 @@ ceiling-outcome outcome.Accepted f = refl
 ceiling-outcome (outcome.Refused c) f = refl
 
 -- what is promised whether or not the table is valid
-record Answered (s : List ℕ) (charge : ℕ) (r : StepCeiling) : Type 0 where
-  unspent : (limit : ℕ) → r .ceiling ≤ limit → planOf s charge limit .verdict ≢ Spent
+record Answered (s : List ℕ) (charge : ℕ) (affinity : List ℕ) (r : StepCeiling) : Type 0 where
+  unspent : (limit : ℕ) → r .ceiling ≤ limit → planOf s charge affinity limit .verdict ≢ Spent
   refused : numberIn (r .outcome) ≢ 0 → r .ceiling ≡ 0
 
-answered : (s : List ℕ) (charge : ℕ) (o : Outcome) → tableOutcome s charge ≡ o → Answered s charge (ceilingBy o (fieldsOf s charge))
+answered : (s : List ℕ) (charge : ℕ) (affinity : List ℕ) (o : Outcome) → tableOutcome s charge affinity ≡ o → Answered s charge affinity (ceilingBy o (fieldsOf s charge affinity))
 unfolding ceilingBy planOf planBy refusedPlan
-answered s charge (outcome.Refused c) e = record {
+answered s charge affinity (outcome.Refused c) e = record {
   unspent = λ limit h. rw e (λ q. let z : _≡_ {A = ℕ} 0 1 = cc in omega arith);
   refused = λ n. refl;
 }
-answered s charge outcome.Accepted e = record {
-  unspent = λ limit h. rw e (never-spent (fieldsOf s charge) (accepts (decides (table-tested s charge)) .0 e .fields) limit h);
+answered s charge affinity outcome.Accepted e = record {
+  unspent = λ limit h. rw e (never-spent (fieldsOf s charge affinity) (accepts (decides (table-tested s charge affinity)) .0 e .fields) limit h);
   refused = λ n. absurd (n refl);
 }
 
 -- every clause of `step_ceiling`, of an answer that equals the definition
-module _ (s : List ℕ) (charge : ℕ) {r : StepCeiling} (e : r ≡ ceilingOf s charge) where
-  holds : Answered s charge r
+module _ (s : List ℕ) (charge : ℕ) (affinity : List ℕ) {r : StepCeiling} (e : r ≡ ceilingOf s charge affinity) where
+  holds : Answered s charge affinity r
   unfolding ceilingOf
-  holds = rw e (answered s charge (tableOutcome s charge) refl)
+  holds = rw e (answered s charge affinity (tableOutcome s charge affinity) refl)
 
-  valid-is : Valid s charge → r .ceiling ≡ stepCeiling (coreCount s) (taskCount s)
-  unfolding ceilingOf ceilingBy fieldsOf
-  valid-is v = rw (e, accepts (decides (table-tested s charge)) .1 v)
+  valid-is : Valid s charge affinity → r .ceiling ≡ stepCeiling (fieldsOf s charge affinity)
+  unfolding ceilingOf ceilingBy
+  valid-is v = rw (e, accepts (decides (table-tested s charge affinity)) .1 v)
 
-  pub ceiling-decides : Decides (Valid s charge) (conditions s charge) (r .outcome)
+  pub ceiling-decides : Decides (Valid s charge affinity) (conditions s charge affinity) (r .outcome)
   unfolding ceilingOf
-  ceiling-decides = rw (e, ceiling-outcome (tableOutcome s charge) (fieldsOf s charge)) (decides (table-tested s charge))
+  ceiling-decides = rw (e, ceiling-outcome (tableOutcome s charge affinity) (fieldsOf s charge affinity)) (decides (table-tested s charge affinity))
 
-  pub ceiling-promise : Promise s charge r
-  unfolding stepCeiling fieldsOf
+  pub ceiling-promise : Promise s charge affinity r
   ceiling-promise = record {
-    sum = valid-is;
-    steps = λ v. rw (valid-is v) (steps-within (fieldsOf s charge) (v .fields));
+    valid = λ v. rw (valid-is v) (ceils (fieldsOf s charge affinity) (v .fields));
     unspent = holds .unspent;
   }
 
@@ -93,34 +203,36 @@ module _ (s : List ℕ) (charge : ℕ) {r : StepCeiling} (e : r ≡ ceilingOf s 
   ceiling-refused = holds .refused
 
   -- one within the other, as the contract's clauses stand
-  pub ceiling-promised : (r ≡ ceilingOf s charge) × (Decides (Valid s charge) (conditions s charge) (r .outcome) × (Promise s charge r × (numberIn (r .outcome) ≢ 0 → r .ceiling ≡ 0)))
+  pub ceiling-promised : (r ≡ ceilingOf s charge affinity) × (Decides (Valid s charge affinity) (conditions s charge affinity) (r .outcome) × (Promise s charge affinity r × (numberIn (r .outcome) ≢ 0 → r .ceiling ≡ 0)))
   ceiling-promised = (e, (ceiling-decides, (ceiling-promise, ceiling-refused)))
 
 -- ---- from the reader's answer
 
-module _ (s : List ℕ) (charge : ℕ) {g : Reading} (e : g ≡ readingOf s charge) where
+module _ (s : List ℕ) (charge : ℕ) (affinity : List ℕ) {g : Reading} (e : g ≡ readingOf s charge affinity) where
   pub ceiling-of-refused : {c : Cause} → g .outcome ≡ outcome.Refused c
-      → _≡_ {A = StepCeiling} (record { outcome = outcome.Refused c; ceiling = 0 }) (ceilingOf s charge)
+      → _≡_ {A = StepCeiling} (record { outcome = outcome.Refused c; ceiling = 0 }) (ceilingOf s charge affinity)
   unfolding ceilingOf ceilingBy
-  ceiling-of-refused q = rw (← read-outcome s charge e, q)
+  ceiling-of-refused q = rw (← read-outcome s charge affinity e, q)
 
-  pub ceiling-of-accepted : g .outcome ≡ outcome.Accepted → {x : ℕ} → x ≡ stepCeiling (g .tasks .fields .m) (g .tasks .fields .n)
-      → _≡_ {A = StepCeiling} (record { outcome = outcome.Accepted; ceiling = x }) (ceilingOf s charge)
+  pub ceiling-of-accepted : g .outcome ≡ outcome.Accepted → {x : ℕ} → x ≡ stepCeiling (g .tasks .fields)
+      → _≡_ {A = StepCeiling} (record { outcome = outcome.Accepted; ceiling = x }) (ceilingOf s charge affinity)
   unfolding ceilingOf ceilingBy
   ceiling-of-accepted q w =
-      rw (← read-outcome s charge e, q)
-      (ap (λ x. record { outcome = outcome.Accepted; ceiling = x }) (w ∙ ap (λ f. stepCeiling (f .m) (f .n)) (fields-are s charge e q)))
+      rw (← read-outcome s charge affinity e, q)
+      (ap (λ x. record { outcome = outcome.Accepted; ceiling = x }) (w ∙ ap stepCeiling (fields-are s charge affinity e q)))
 
 -- ---- the usual limit
 
 -- so few tasks that the ceiling is at most 1,000,000
-few-steps : (s : List ℕ) → taskCount s ≤ 16 → Few s → stepCeiling (coreCount s) (taskCount s) ≤ 1000000
+few-steps : (s : List ℕ) → taskCount s ≤ 16 → Few s → freeCeiling (coreCount s) (taskCount s) ≤ 1000000
 few-steps s h (inl e) = rw e (omega (arith, ceiling-grows 1 h, usual-ceilings .0))
 few-steps s h (inr (inl x)) = rw (x .0) (omega (arith, ceiling-grows 2 (x .1), usual-ceilings .1))
 few-steps s h (inr (inr (inl x))) = rw (x .0) (omega (arith, ceiling-grows 3 (x .1), usual-ceilings .2))
 few-steps s h (inr (inr (inr x))) = rw (x .0) (omega (arith, ceiling-grows 4 (x .1), usual-ceilings .3))
 
-pub few-unspent : (s : List ℕ) (charge : ℕ) → Valid s charge → Few s → planOf s charge 1000000 .verdict ≢ Spent
+pub few-unspent : (s : List ℕ) (charge : ℕ) (affinity : List ℕ) → Valid s charge affinity → Free (fieldsOf s charge affinity) → Few s
+    → planOf s charge affinity 1000000 .verdict ≢ Spent
 unfolding fieldsOf
-few-unspent s charge v h =
-    ceiling-promise s charge refl .unspent 1000000 (rw (valid-is s charge refl v) (few-steps s (v .fields .sizes .tasks .1) h))
+few-unspent s charge affinity v free h =
+    let p = ceiling-promise s charge affinity refl in
+    p .unspent 1000000 (rw (p .valid v .free free) (few-steps s (v .fields .sizes .tasks .1) h))

@@ -1,27 +1,51 @@
 -- The step ceiling's answer.
-use Prim.Native.Nat.{ℕ, _+_, min}
+use Prim.Native.Nat.{ℕ, pred, _+_, min}
+use mathlib.Core.Bool.{Bool, cond, not}
 use mathlib.Core.List.{List}
+use lib.Dec.{eqb}
+use Rattle.numbers.specs.First.{first}
+use Rattle.numbers.specs.Reorder.{gather}
+use Rattle.numbers.specs.Rows.{tab, entry}
 use Rattle.numbers.specs.Sums.{sumFromOne, productFromOne}
+use Rattle.affinity.specs.Permitted.{permittedCount}
 use Rattle.refusal.specs.declared.Outcome.{Outcome}
 use Rattle.refusal.specs.declared.Outcome.the-variants.{Accepted, Refused}
+use Rattle.taskset.specs.Fields.{affinityAt}
 use Rattle.taskset.specs.declared.Fields.{Fields}
 use Rattle.stored.specs.Form.{fieldsOf}
 use Rattle.stored.specs.Tests.{tableOutcome}
+use Rattle.planner.specs.Problem.{orderOf}
 use Rattle.ceiling.specs.declared.StepCeiling.{StepCeiling}
 
--- the factor for j on m cores: the smaller of j and m, plus 1
-abbrev pub factorFor : ℕ → ℕ → ℕ
-factorFor m j = min j m + 1
+-- how many cores the task at k permits: the ones among the eight bits of its core byte
+abbrev pub coresOf : List ℕ → ℕ → ℕ
+coresOf affinity k = permittedCount (entry affinity k) 8
 
--- for n tasks on m cores the sum, over k from 1 to n, of the product over j from 1 to k of the factor for j
-unfoldable pub stepCeiling : ℕ → ℕ → ℕ
-stepCeiling m n = sumFromOne (λ k. productFromOne (λ j. factorFor m j) k) n
+-- some of n tasks does not permit all m cores
+unfoldable pub someTied : List ℕ → ℕ → ℕ → Bool
+someTied affinity n m = not (eqb (first (λ k. not (eqb (coresOf affinity k) m)) n) 0)
+
+-- the factor for j: where some task is tied, how many cores the jth task permits, plus 1; otherwise the smaller of j and m, plus 1
+unfoldable pub factorFor : Bool → List ℕ → ℕ → ℕ → ℕ
+factorFor tied affinity m j = cond tied (coresOf affinity (pred j) + 1) (min j m + 1)
+
+-- the sum, over k from 1 to n, of the product over j from 1 to k of the factor for j
+unfoldable pub sumOfProducts : (ℕ → ℕ) → ℕ → ℕ
+sumOfProducts factor n = sumFromOne (λ k. productFromOne factor k) n
+
+-- the core bytes of the tasks in planning order
+abbrev pub plannedBytes : Fields → List ℕ
+plannedBytes f = gather (orderOf f) (tab (f .n) (affinityAt f))
+
+-- the step ceiling of fields within the limits
+unfoldable pub stepCeiling : Fields → ℕ
+stepCeiling f = sumOfProducts (factorFor (someTied (plannedBytes f) (f .n) (f .m)) (plannedBytes f) (f .m)) (f .n)
 
 -- the answer by the outcome of the table's tests: a refused table has ceiling 0
 unfoldable pub ceilingBy : Outcome → Fields → StepCeiling
 ceilingBy (Refused cause) f = record { outcome = Refused cause; ceiling = 0 }
-ceilingBy Accepted f = record { outcome = Accepted; ceiling = stepCeiling (f .m) (f .n) }
+ceilingBy Accepted f = record { outcome = Accepted; ceiling = stepCeiling f }
 
--- the answer for a table and the charge beside it
-unfoldable pub ceilingOf : List ℕ → ℕ → StepCeiling
-ceilingOf s charge = ceilingBy (tableOutcome s charge) (fieldsOf s charge)
+-- the answer for a table, the charge and the core bytes beside it
+unfoldable pub ceilingOf : List ℕ → ℕ → List ℕ → StepCeiling
+ceilingOf s charge affinity = ceilingBy (tableOutcome s charge affinity) (fieldsOf s charge affinity)

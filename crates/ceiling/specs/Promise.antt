@@ -1,29 +1,59 @@
 -- What is promised of the step ceiling, in the table's terms.
-use Prim.Native.Nat.{ℕ, _+_, _≤_, min}
+use Prim.Native.Nat.{ℕ, pred, _+_, _≤_, _<_, min}
 use mathlib.Core.Path.{_≡_}
+use mathlib.Core.Bool.{true, false, cond}
 use mathlib.Core.List.{List, [], _∷_}
 use mathlib.Core.Logic.{_⊎_, _≢_}
 use lib.ListN.{length}
+use Rattle.numbers.specs.Rows.{entry}
 use Rattle.numbers.specs.Sums.{sumFromOne, productFromOne}
+use Rattle.affinity.specs.Permitted.{permitted}
+use Rattle.taskset.specs.Fields.{affinityAt}
+use Rattle.taskset.specs.declared.Fields.{Fields}
 use Rattle.stored.specs.Form.{fieldsOf, taskCount, coreCount}
 use Rattle.stored.specs.Limits.{Valid}
+use Rattle.planner.specs.Problem.{orderOf}
 use Rattle.planner.specs.Plan.{planOf}
-use Rattle.planner.specs.Promise.{walkOf}
+use Rattle.planner.specs.Promise.{walkOf, StatedOrder}
 use Rattle.planner.specs.declared.Verdict.the-variants.{Spent}
-use Rattle.ceiling.specs.Ceiling.{stepCeiling}
 use Rattle.ceiling.specs.declared.StepCeiling.{StepCeiling}
 
-pub record Promise (table : List ℕ) (charge : ℕ) (r : StepCeiling) : Type 0 where
-  -- It is the sum, over k from 1 to n, of the product over j from 1 to k of (the smaller of j and m, plus 1).
-  pub sum : Valid table charge → r .ceiling ≡ sumFromOne (λ k. productFromOne (λ j. min j (coreCount table) + 1) k) (taskCount table)
-  -- The steps of the complete walk never exceed it,
-  pub steps : Valid table charge → length (walkOf (fieldsOf table charge)) ≤ r .ceiling
-  -- and the exact planner with a limit at or above it is never spent.
-  pub unspent : (limit : ℕ) → r .ceiling ≤ limit → planOf table charge limit .verdict ≢ Spent
+-- every task permits every core
+abbrev pub Free : Fields → Type 0
+Free f = (k : ℕ) → k < f .n → (core : ℕ) → 1 ≤ core → core ≤ f .m → permitted (affinityAt f k) core ≡ true
 
--- the ceilings of 4, 8, 12 and 16 tasks on m cores
+-- some task does not permit some core
+abbrev pub Tied : Fields → Type 0
+Tied f = (k : ℕ) × (k < f .n) × (core : ℕ) × (1 ≤ core) × (core ≤ f .m) × (permitted (affinityAt f k) core ≡ false)
+
+-- how many cores the jth task in planning order permits
+abbrev pub permittedTo : Fields → ℕ → ℕ
+permittedTo f j = sumFromOne (λ core. cond (permitted (affinityAt f (entry (orderOf f) (pred j))) core) 1 0) (f .m)
+
+-- What is promised of a valid table's ceiling x.
+pub record Ceils (f : Fields) (x : ℕ) : Type 0 where
+  -- Where every task permits every core, it is the sum, over k from 1 to n, of the product over j from 1 to k of
+  -- (the smaller of j and m, plus 1).
+  pub free : Free f → x ≡ sumFromOne (λ k. productFromOne (λ j. min j (f .m) + 1) k) (f .n)
+  -- Where some task does not, the factor for j is how many cores the jth task in planning order permits, plus 1.
+  pub tied : Tied f → x ≡ sumFromOne (λ k. productFromOne (λ j. permittedTo f j + 1) k) (f .n)
+  -- That order takes the tasks by falling demand, equal demands by shorter period, then by lower number; each task once.
+  pub ordered : StatedOrder f
+  -- The steps of the complete walk never exceed it.
+  pub steps : length (walkOf f) ≤ x
+
+pub record Promise (table : List ℕ) (charge : ℕ) (affinity : List ℕ) (r : StepCeiling) : Type 0 where
+  pub valid : Valid table charge affinity → Ceils (fieldsOf table charge affinity) (r .ceiling)
+  -- The exact planner with a limit at or above it is never spent.
+  pub unspent : (limit : ℕ) → r .ceiling ≤ limit → planOf table charge affinity limit .verdict ≢ Spent
+
+-- where every core is permitted, the ceiling of n tasks on m cores
+abbrev pub freeCeiling : ℕ → ℕ → ℕ
+freeCeiling m n = sumFromOne (λ k. productFromOne (λ j. min j m + 1) k) n
+
+-- those of 4, 8, 12 and 16 tasks
 abbrev pub fourCeilings : ℕ → List ℕ
-fourCeilings m = stepCeiling m 4 ∷ stepCeiling m 8 ∷ stepCeiling m 12 ∷ stepCeiling m 16 ∷ []
+fourCeilings m = freeCeiling m 4 ∷ freeCeiling m 8 ∷ freeCeiling m 12 ∷ freeCeiling m 16 ∷ []
 
 -- Worked out: the numbers of README's table, by the number of cores.
 pub record Worked : Type 0 where
@@ -32,7 +62,7 @@ pub record Worked : Type 0 where
   pub three : fourCeilings 3 ≡ 128 ∷ 32768 ∷ 8388608 ∷ 2147483648 ∷ []
   pub four : fourCeilings 4 ≡ 152 ∷ 93752 ∷ 58593752 ∷ 36621093752 ∷ []
 
--- A table of so few tasks for its cores that 1,000,000 steps always suffice.
+-- A table of so few tasks for its cores that 1,000,000 steps always suffice where every core is permitted.
 abbrev pub Few : List ℕ → Type 0
 Few table =
     (coreCount table ≡ 1)

@@ -1,13 +1,16 @@
 // The step ceiling of a table: as many steps as the exact planner's walk has at most.
 ghost use mathlib.Core.Path.{_≡_};
 ghost use mathlib.Core.Logic.{_≢_};
-ghost use Prim.Native.Nat.{_*_, _≤_, _<_};
+ghost use Prim.Native.Nat.{_+_, _*_, _≤_, _<_, min};
+ghost use lib.ListN.{take};
 ghost use Rattle.refusal.specs.Causes.{numberIn};
 ghost use Rattle.refusal.specs.Conditions.{Decides};
+ghost use Rattle.taskset.specs.Limits.{Checked};
 ghost use Rattle.stored.specs.Limits.{Valid, conditions};
-ghost use Rattle.ceiling.specs.Ceiling.{factorFor, stepCeiling, ceilingOf};
+ghost use Rattle.ceiling.specs.Ceiling.{someTied, factorFor, sumOfProducts, stepCeiling, ceilingOf};
 ghost use Rattle.ceiling.specs.Promise.{Promise};
 use refusal::Outcome;
+use taskset::TaskSet;
 
 // The answer: a refused table has ceiling 0.
 pub struct StepCeiling {
@@ -15,12 +18,38 @@ pub struct StepCeiling {
     pub ceiling: u64,
 }
 
-// The factor for j: the smaller of j and m, plus 1.
-fn factor(j: u64, m: u64) -> u64
-    requires { ⌜ m ≤ 4 ⌝ }
-    ensures { λ r. ⌜ r ≡ factorFor m j ⌝ }
+// Whether some of n tasks does not permit all m cores.
+fn some_tied(affinity: [u8; 16], n: usize, m: usize) -> bool
+    requires { ⌜ n ≤ 16 ⌝ }
+    ensures { λ r. ⌜ r ≡ someTied (take n affinity) n m ⌝ }
 {
-    if j < m { j + 1 } else { m + 1 }
+    let mut k = 0;
+    while k < n {
+        if affinity::count(affinity[k]) as usize != m {
+            return true;
+        }
+        k += 1;
+    }
+    false
+}
+
+// The smaller of j and m.
+fn smaller(j: u64, m: u64) -> u64
+    ensures { λ r. ⌜ r ≡ min j m ⌝ }
+{
+    if j < m { j } else { m }
+}
+
+// The factor for the task at k: how many cores it permits, plus 1, where some task is tied; otherwise the smaller of k + 1 and m, plus 1.
+fn factor(tied: bool, affinity: [u8; 16], m: u64, k: usize) -> u64
+    requires { ⌜ (k < 16) × (m ≤ 4) ⌝ }
+    ensures { λ r. ⌜ r ≡ factorFor tied affinity m (k + 1) ⌝ }
+{
+    if tied {
+        affinity::count(affinity[k]) as u64 + 1
+    } else {
+        smaller(k as u64 + 1, m) + 1
+    }
 }
 
 // A product with one factor more.
@@ -32,29 +61,42 @@ fn times(product: u64, next: u64) -> u64
 }
 
 // The sum, over k from 1 to n, of the product over j from 1 to k of the factor for j.
-fn sum_of_products(n: u64, m: u64) -> u64
+fn sum_of_products(tied: bool, affinity: [u8; 16], n: usize, m: u64) -> u64
     requires { ⌜ (n ≤ 16) × (m ≤ 4) ⌝ }
-    ensures { λ r. ⌜ r ≡ stepCeiling m n ⌝ }
+    ensures { λ r. ⌜ r ≡ sumOfProducts (factorFor tied (take n affinity) m) n ⌝ }
 {
     let mut sum: u64 = 0;
     let mut product: u64 = 1;
-    let mut k: u64 = 0;
+    let mut k = 0;
     while k < n {
-        k += 1;
-        product = times(product, factor(k, m));
+        product = times(product, factor(tied, affinity, m, k));
         sum += product;
+        k += 1;
     }
     sum
 }
 
-// The step ceiling of a stored table on a board with this charge, to set the exact planner's limit by.
-pub fn step_ceiling(table: &[u8], charge: u32) -> StepCeiling
-    ensures answer { λ r. ⌜ r ≡ ceilingOf (now (table .entry)) charge ⌝ }
-    ensures decides { λ r. ⌜ Decides (Valid (now (table .entry)) charge) (conditions (now (table .entry)) charge) (r .outcome) ⌝ }
-    ensures promise { λ r. ⌜ Promise (now (table .entry)) charge r ⌝ }
+// The step ceiling of a checked task set: its tasks' core bytes count in planning order.
+fn ceiling_of(t: TaskSet) -> u64
+    requires { ⌜ Checked t ⌝ }
+    ensures { λ r. ⌜ r ≡ stepCeiling (t .fields) ⌝ }
+{
+    let n = t.fields.n;
+    let order = planning::planning_order(t);
+    let bytes = t.fields.affinity;
+    let permitted = planning::bytes_in_planning_order(bytes, order, n);
+    let tied = some_tied(permitted, n, t.fields.m);
+    sum_of_products(tied, permitted, n, t.fields.m as u64)
+}
+
+// The step ceiling of a stored table on a board with this charge and with these core bytes, to set the exact planner's limit by.
+pub fn step_ceiling(table: &[u8], charge: u32, affinity: &[u8]) -> StepCeiling
+    ensures answer { λ r. ⌜ r ≡ ceilingOf (now (table .entry)) charge (now (affinity .entry)) ⌝ }
+    ensures decides { λ r. ⌜ Decides (Valid (now (table .entry)) charge (now (affinity .entry))) (conditions (now (table .entry)) charge (now (affinity .entry))) (r .outcome) ⌝ }
+    ensures promise { λ r. ⌜ Promise (now (table .entry)) charge (now (affinity .entry)) r ⌝ }
     ensures refused { λ r. ⌜ (numberIn (r .outcome) ≢ 0 → r .ceiling ≡ 0) ⌝ }
 {
-    let reading = stored::read_charged(table, charge);
+    let reading = stored::read_beside(table, charge, affinity);
     let outcome = reading.outcome;
     match outcome {
         Outcome::Refused(cause) => StepCeiling {
@@ -62,11 +104,10 @@ pub fn step_ceiling(table: &[u8], charge: u32) -> StepCeiling
             ceiling: 0,
         },
         Outcome::Accepted => {
-            let n = reading.tasks.fields.n as u64;
-            let m = reading.tasks.fields.m as u64;
+            let ceiling = ceiling_of(reading.tasks);
             StepCeiling {
                 outcome: Outcome::Accepted,
-                ceiling: sum_of_products(n, m),
+                ceiling: ceiling,
             }
         }
     }

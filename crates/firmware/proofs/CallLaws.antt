@@ -4,10 +4,9 @@ use mathlib.Core.Path.{_≡_, refl, sym, _∙_, ap}
 use mathlib.Core.List.{List, _++_}
 use mathlib.Core.Logic.{⊎-elim, _↔_, _≢_}
 use lib.ListN.{length, take, drop}
-use lib.Seq.{take-at, drop-at, length-take-le}
+use lib.Seq.{take-at, drop-at}
 use native.Mathlib.Omega.{arith}
 use Rattle.numbers.proofs.BoundLaws.{less-exactly, not-less}
-use Rattle.numbers.proofs.RowLaws.{length-row}
 use Rattle.refusal.specs.Causes.{numberOf, placeOf, numberIn}
 use Rattle.refusal.specs.Tests.{_then_}
 use Rattle.refusal.specs.declared.Cause.{Cause}
@@ -16,15 +15,16 @@ use Rattle.refusal.specs.declared.Outcome.{Outcome}
 use Rattle.refusal.specs.declared.Outcome.the-variants as outcome
 use Rattle.refusal.proofs.CauseLaws.{number-range}
 use Rattle.refusal.proofs.TestLaws.{accepted≢refused, outcome-cases, then-accepted, then-refused}
-use Rattle.refusal.proofs.ConditionLaws.{none-first, first-given, test-only, _also_, Tested, join, decides, accepts}
+use Rattle.refusal.proofs.ConditionLaws.{none-first, first-given, test-only, Tested, join, decides, accepts}
 use Rattle.taskset.specs.declared.Reading.{Reading}
-use Rattle.stored.specs.Form.{taskCount, fieldsOf}
+use Rattle.stored.specs.Form.{taskCount, fieldsOf, everyAffinity, fieldsAlone}
 use Rattle.stored.specs.Tests.{tableOutcome, readingOf}
 use Rattle.stored.specs.Limits.{Valid}
 use Rattle.stored.proofs.TableLaws.{table-tested-alone, read-outcome}
-use Rattle.planner.specs.Plan.{allocationOf, planFor, planOf, verdictOutcome}
+use Rattle.planner.specs.Plan.{planFor, planOf, verdictOutcome}
 use Rattle.planner.proofs.PlanLaws.{fields-are, plan-accepted}
-use Rattle.planner.proofs.PromiseLaws.{plan-decides, plan-promised}
+use Rattle.planner.specs.Promise.{Promise}
+use Rattle.planner.proofs.PromiseLaws.{demands-long, plan-decides, plan-promised}
 use Rattle.planner.specs.declared.Allocation.{Allocation}
 use Rattle.planner.specs.declared.Verdict.{Verdict}
 use Rattle.planner.specs.declared.Verdict.the-variants.{All, Short, Spent, Refused}
@@ -33,7 +33,7 @@ use Rattle.firmware.specs.Service.{ValidCall, callConditions, Answers, K
 
 -- Numbers 1 to 7, then 8, decide.
 module _ (s : List ℕ) (room : ℕ) where
-  call-tested : Tested (Valid s 0 × (taskCount s ≤ room)) (callConditions s room) (callOutcome s room)
+  call-tested : Tested (Valid s 0 (everyAffinity s) × (taskCount s ≤ room)) (callConditions s room) (callOutcome s room)
   unfolding callOutcome
   call-tested =
       join (table-tested-alone s) (record {
@@ -41,8 +41,11 @@ module _ (s : List ℕ) (room : ℕ) where
         valid = (λ n. not-less _ _ (n .0), λ h. (λ g. omega arith, tt));
       })
 
-  call-accepts : (callOutcome s room ≡ outcome.Accepted) ↔ (Valid s 0 × (taskCount s ≤ room))
+  call-accepts : (callOutcome s room ≡ outcome.Accepted) ↔ (Valid s 0 (everyAffinity s) × (taskCount s ≤ room))
   call-accepts = accepts (decides call-tested)
+
+  call-valid : callOutcome s room ≡ outcome.Accepted → ValidCall s room
+  call-valid q = let v = call-accepts .0 q in record { table = v .0; fits = v .1 }
 
 -- a verdict that is no refusal has a code of at most 2: 2 for spent, and else 0 for all
 code-planned : (v : Verdict) → verdictOutcome v ≡ outcome.Accepted → codeOf v ≤ 2
@@ -71,123 +74,133 @@ code-fits k c h e = omega (arith, number-range c .1)
 pub code-refused : {v : Verdict} {c : Cause} {x : ℕ} → x ≡ numberOf c → v ≡ Refused c → 100 + x ≡ codeOf v
 code-refused e q = rw (q, e)
 
--- everything that the entry promises of its result and its buffer
-abbrev Promises : List ℕ → ℕ → List ℕ → ℕ → List ℕ → Type 0
-Promises s limit buffer code after =
-    (code ≡ codeFor s limit (length buffer))
-    × ((after ≡ bufferAfter s limit buffer) × (Answers s buffer code after × (code ≤ 2 → Keeps s buffer limit code after)))
-
 -- The outcome is that of the tests of the reading, then of the buffer: where the reading is refused, the buffer's does not matter.
 pub read-well : (a b : Outcome) {o : Outcome} → o ≡ a then b → o ≡ outcome.Accepted → a ≡ outcome.Accepted
 read-well a b p q = then-accepted a b (sym p ∙ q) .0
 
-module _ (s : List ℕ) (room : ℕ) {g : Reading} (e : g ≡ readingOf s 0) {fits : Outcome} (f : fits ≡ bufferTest (g .tasks .fields .n) room)
+module _ (s : List ℕ) (room : ℕ) {g : Reading} (e : g ≡ readingOf s 0 (everyAffinity s)) {fits : Outcome} (f : fits ≡ bufferTest (g .tasks .fields .n) room)
     {o : Outcome} (p : o ≡ g .outcome then fits) where
   count-is : g .outcome ≡ outcome.Accepted → g .tasks .fields .n ≡ taskCount s
   unfolding fieldsOf
-  count-is q = ap (λ f. f .n) (fields-are s 0 e q)
+  count-is q = ap (λ f. f .n) (fields-are s 0 (everyAffinity s) e q)
 
   pub outcome-is : o ≡ callOutcome s room
   unfolding callOutcome
   outcome-is =
       ⊎-elim
-      (λ q. rw (← read-outcome s 0 e, ← count-is q, ← f) p)
+      (λ q. rw (← read-outcome s 0 (everyAffinity s) e, ← count-is q, ← f) p)
       (λ q. p ∙ then-refused (g .outcome) fits (q .0) (q .1)
-      ∙ sym (then-refused (tableOutcome s 0) (bufferTest (taskCount s) room) (q .0) (sym (read-outcome s 0 e) ∙ q .1)))
+      ∙ sym (then-refused (tableOutcome s 0 (everyAffinity s)) (bufferTest (taskCount s) room) (q .0) (sym (read-outcome s 0 (everyAffinity s) e) ∙ q .1)))
       (outcome-cases (g .outcome))
 
   -- what an accepted call is given
   module _ (q : o ≡ outcome.Accepted) where
-    call-valid : ValidCall s room
-    call-valid = let v = call-accepts s room .0 (sym outcome-is ∙ q) in record { table = v .0; fits = v .1 }
-
     pub call-few : g .tasks .fields .n ≤ 16
     unfolding fieldsOf
-    call-few = rw (count-is (read-well _ _ p q)) (call-valid .table .fields .sizes .tasks .1)
+    call-few = rw (count-is (read-well _ _ p q)) (call-valid s room (sym outcome-is ∙ q) .table .fields .sizes .tasks .1)
 
     pub call-room : g .tasks .fields .n ≤ room
-    call-room = rw (count-is (read-well _ _ p q)) (call-valid .fits)
+    call-room = rw (count-is (read-well _ _ p q)) (call-valid s room (sym outcome-is ∙ q) .fits)
 
-module _ (s : List ℕ) (limit : ℕ) (buffer : List ℕ) {g : Reading} (e : g ≡ readingOf s 0) {fits : Outcome}
+-- Code and buffer are those of the definitions.
+module _ (s : List ℕ) (limit : ℕ) (buffer : List ℕ) {g : Reading} (e : g ≡ readingOf s 0 (everyAffinity s)) {fits : Outcome}
     (f : fits ≡ bufferTest (g .tasks .fields .n) (length buffer)) {o : Outcome} (p : o ≡ g .outcome then fits) where
   same : o ≡ callOutcome s (length buffer)
   same = outcome-is s (length buffer) e f p
 
-  pub call-refused : {c : Cause} {code : ℕ} → o ≡ outcome.Refused c → code ≡ codeOf (Refused c) → Promises s limit buffer code buffer
+  pub call-refused : {c : Cause} {code : ℕ} → o ≡ outcome.Refused c → code ≡ codeOf (Refused c)
+      → (code ≡ codeFor s limit (length buffer)) × (buffer ≡ bufferAfter s limit buffer)
   unfolding codeFor codeBy bufferAfter bufferBy
-  call-refused {c} q h =
-      (rw (← same, q) h)
-      also (rw (← same, q))
-      also record {
-        accepted = (λ g. absurd (omega arith), λ v. absurd (accepted≢refused (call-accepts s (length buffer) .1 (v .table, v .fits)) (sym same ∙ q)));
-        refused = λ k. (
-          λ g. let d : k ≡ numberOf c = omega arith in (placeOf c, rw d (call-tested s (length buffer) .reports .refused c (sym same ∙ q))),
-          λ x. h ∙ ap (λ y. 100 + y) (ap numberIn (sym q ∙ same) ∙ first-given (call-tested s (length buffer) .reports) (x .1) .0),
-        );
-        untouched = λ g. refl;
-      }
-      also (λ g. absurd (omega arith))
+  call-refused q h = (rw (← same, q) h, rw (← same, q))
 
-  module _ (q : o ≡ outcome.Accepted) {r : Allocation} (w : r ≡ planFor (g .tasks .fields) limit) (l : length (r .placement) ≡ 16)
-      {code : ℕ} {after : List ℕ} (h : code ≡ codeOf (r .verdict)) (t : after ≡ take (g .tasks .fields .n) (r .placement) ++ drop (g .tasks .fields .n) buffer) where
-    valid : ValidCall s (length buffer)
-    valid = call-valid s (length buffer) e f p q
+  pub call-planned : o ≡ outcome.Accepted → {r : Allocation} → r ≡ planFor (g .tasks .fields) limit → {code : ℕ} {after : List ℕ} → code ≡ codeOf (r .verdict)
+      → after ≡ take (g .tasks .fields .n) (r .placement) ++ drop (g .tasks .fields .n) buffer
+      → (code ≡ codeFor s limit (length buffer)) × (after ≡ bufferAfter s limit buffer)
+  unfolding codeFor codeBy bufferAfter bufferBy
+  call-planned q {r} w {after = after} h t =
+      let plan-is : r ≡ planOf s 0 (everyAffinity s) limit = plan-accepted s 0 (everyAffinity s) e limit (read-well _ _ p q) w in
+      let after-is : after ≡ take (taskCount s) (r .placement) ++ drop (taskCount s) buffer = rw (← count-is s (length buffer) e f p (read-well _ _ p q)) t in (
+        rw (← same, q) (h ∙ ap (λ a. codeOf (a .verdict)) plan-is),
+        rw (← same, q) (after-is ∙ ap (λ a. take (taskCount s) (a .placement) ++ drop (taskCount s) buffer) plan-is),
+      )
 
-    n-is : g .tasks .fields .n ≡ taskCount s
-    n-is = count-is s (length buffer) e f p (read-well _ _ p q)
+-- What the definitions promise: of a refused call,
+module _ (s buffer : List ℕ) (limit : ℕ) where
+  abbrev room : ℕ
+  room = length buffer
 
-    plan-is : r ≡ planOf s 0 limit
-    plan-is = plan-accepted s 0 e limit (read-well _ _ p q) w
+  refused-answers : (c : Cause) → callOutcome s room ≡ outcome.Refused c → Answers s buffer (codeOf (Refused c)) buffer
+  refused-answers c q = record {
+    accepted = (λ g. absurd (omega arith), λ v. absurd (accepted≢refused (call-accepts s room .1 (v .table, v .fits)) q));
+    refused = λ k. (
+      λ g. let d : k ≡ numberOf c = omega arith in (placeOf c, rw d (call-tested s room .reports .refused c q)),
+      λ x. ap (λ y. 100 + y) (ap numberIn (sym q) ∙ first-given (call-tested s room .reports) (x .1) .0),
+    );
+    untouched = λ g. refl;
+  }
 
-    small : code ≤ 2
-    small = rw h (code-planned (r .verdict) (accepts (plan-decides s 0 limit plan-is) .1 (valid .table)))
+  -- and of an accepted one
+  module _ (q : callOutcome s room ≡ outcome.Accepted) where
+    valid : ValidCall s room
+    valid = call-valid s room q
 
-    after-is : after ≡ take (taskCount s) (r .placement) ++ drop (taskCount s) buffer
-    after-is = rw (← n-is) t
+    plan : Allocation
+    plan = planOf s 0 (everyAffinity s) limit
 
-    front-long : length (take (taskCount s) (r .placement)) ≡ taskCount s
-    front-long = rw (← n-is) (length-take-le (g .tasks .fields .n) (r .placement) (omega (arith, call-few s (length buffer) e f p q)))
+    after : List ℕ
+    after = take (taskCount s) (plan .placement) ++ drop (taskCount s) buffer
 
-    kept : Keeps s buffer limit code after
+    small : codeOf (plan .verdict) ≤ 2
+    unfolding plan
+    small = code-planned (plan .verdict) (accepts (plan-decides s 0 (everyAffinity s) limit refl) .1 (valid .table))
+
+    planned-answers : Answers s buffer (codeOf (plan .verdict)) after
+    planned-answers = record {
+      accepted = (λ g. valid, λ g. small);
+      refused = λ k. (
+        λ g. absurd (omega (arith, small)),
+        λ x. absurd (none-first (callConditions s room) k (x .0) (call-tested s room .reports .accepted q) (x .1)),
+      );
+      untouched = λ g. absurd (omega (arith, small));
+    }
+
+    promised : Promise (fieldsAlone s) limit plan
+    unfolding plan
+    promised = plan-promised s 0 (everyAffinity s) limit refl .promise (valid .table)
+
+    front-long : length (take (taskCount s) (plan .placement)) ≡ taskCount s
     unfolding fieldsOf
-    kept =
-        let k = plan-promised s 0 limit plan-is .promise (valid .table) in
-        record {
-          spent = (λ x. k .spent .0 (code-spent (r .verdict) (sym h ∙ x)), λ x. h ∙ ap codeOf (k .spent .1 x));
-          all = λ n.
-              let u : r .verdict ≢ Spent = λ x. n (h ∙ ap codeOf x) in
-              (λ x. k .all u .0 (code-all (r .verdict) (sym h ∙ x)), λ x. h ∙ ap codeOf (k .all u .1 x));
-          plan = r;
-          promise = k;
-          written = rw after-is (take-at (take (taskCount s) (r .placement)) (drop (taskCount s) buffer) (taskCount s) front-long);
-          beyond = rw after-is (drop-at (take (taskCount s) (r .placement)) (drop (taskCount s) buffer) (taskCount s) front-long);
-        }
+    front-long = promised .safe .feasible .whole ∙ demands-long (fieldsAlone s) (valid .table .fields)
 
-    pub call-planned : Promises s limit buffer code after
-    unfolding codeFor codeBy bufferAfter bufferBy
-    call-planned =
-        (rw (← same, q, ← plan-is) h)
-        also (rw (← same, q, ← plan-is) after-is)
-        also record {
-          accepted = (λ g. valid, λ g. small);
-          refused = λ k. (
-            λ g. absurd (omega (arith, small)),
-            λ x. absurd (none-first (callConditions s (length buffer)) k (x .0) (call-tested s (length buffer) .reports .accepted (sym same ∙ q)) (x .1)),
-          );
-          untouched = λ g. absurd (omega (arith, small));
-        }
-        also (λ g. kept)
+    planned-keeps : Keeps s buffer limit (codeOf (plan .verdict)) after
+    unfolding fieldsOf after
+    planned-keeps = record {
+      spent = (λ x. promised .spent .0 (code-spent (plan .verdict) x), λ x. ap codeOf (promised .spent .1 x));
+      all = λ n.
+          let u : plan .verdict ≢ Spent = λ x. n (ap codeOf x) in
+          (λ x. promised .all u .0 (code-all (plan .verdict) x), λ x. ap codeOf (promised .all u .1 x));
+      plan = plan;
+      promise = promised;
+      written = take-at (take (taskCount s) (plan .placement)) (drop (taskCount s) buffer) (taskCount s) front-long;
+      beyond = drop-at (take (taskCount s) (plan .placement)) (drop (taskCount s) buffer) (taskCount s) front-long;
+    }
 
--- Demand 1 of the definitions.
-pub call-answers : (s buffer : List ℕ) (limit : ℕ) → Answers s buffer (codeFor s limit (length buffer)) (bufferAfter s limit buffer)
-unfolding planFor allocationOf
-call-answers s buffer limit =
-    ⊎-elim
-    (λ q. let w = call-planned s limit buffer refl refl refl q refl (length-row 0 _ _) refl refl in
-    rw (← w .0, ← w .1 .0) (w .1 .1 .0))
-    (λ q. let w = call-refused s limit buffer refl refl refl (q .1) refl in rw (← w .0, ← w .1 .0) (w .1 .1 .0))
-    (outcome-cases (readingOf s 0 .outcome then bufferTest (readingOf s 0 .tasks .fields .n) (length buffer)))
+  pub call-answers : Answers s buffer (codeFor s limit room) (bufferAfter s limit buffer)
+  unfolding codeFor codeBy bufferAfter bufferBy plan after
+  call-answers = ⊎-elim (λ q. rw q (planned-answers q)) (λ q. rw (q .1) (refused-answers (q .0) (q .1))) (outcome-cases (callOutcome s room))
 
--- A call whose code is a refusal's leaves its buffer as it was.
-pub refusal-writes-nothing : (s buffer : List ℕ) (limit : ℕ) → 100 ≤ codeFor s limit (length buffer) → bufferAfter s limit buffer ≡ buffer
-refusal-writes-nothing s buffer limit h = call-answers s buffer limit .untouched h
+  pub call-keeps : codeFor s limit room ≤ 2 → Keeps s buffer limit (codeFor s limit room) (bufferAfter s limit buffer)
+  unfolding codeFor codeBy bufferAfter bufferBy plan after
+  call-keeps h = let q = call-accepts s room .1 (call-answers .accepted .0 h .table, call-answers .accepted .0 h .fits) in rw q (planned-keeps q)
+
+  -- A call whose code is a refusal's leaves its buffer as it was.
+  pub refusal-writes-nothing : 100 ≤ codeFor s limit room → bufferAfter s limit buffer ≡ buffer
+  refusal-writes-nothing h = call-answers .untouched h
+
+-- Code and buffer that equal the definitions keep the demands.
+module _ (s buffer : List ℕ) (limit : ℕ) {code : ℕ} {after : List ℕ} (e : code ≡ codeFor s limit (length buffer)) (f : after ≡ bufferAfter s limit buffer) where
+  pub entry-answers : Answers s buffer code after
+  entry-answers = rw (e, f) (call-answers s buffer limit)
+
+  pub entry-keeps : code ≤ 2 → Keeps s buffer limit code after
+  entry-keeps = rw (e, f) (call-keeps s buffer limit)

@@ -1,11 +1,11 @@
--- The demands as the firmware sees them: in the number returned and the bytes of its buffer. The charge is 0.
+-- The demands as the firmware sees them: in the number returned and the bytes of its buffer. The charge is 0, and every core is permitted.
 use Prim.Native.Nat.{ℕ, _+_, _≤_, _<_}
 use mathlib.Core.Path.{_≡_}
 use mathlib.Core.List.{List, [], _∷_, _++_}
 use mathlib.Core.Logic.{_↔_, _≢_}
 use lib.ListN.{length, take, drop}
 use Rattle.refusal.specs.Conditions.{Condition, only, First}
-use Rattle.stored.specs.Form.{taskCount, fieldsOf}
+use Rattle.stored.specs.Form.{taskCount, everyAffinity, fieldsAlone}
 use Rattle.stored.specs.Limits.{Valid, tableConditions}
 use Rattle.allocation.specs.Placement.{Feasible, Full}
 use Rattle.planner.specs.Problem.{tableProblem}
@@ -14,7 +14,7 @@ use Rattle.planner.specs.declared.Allocation.{Allocation}
 
 -- A call within its limits: a valid table, and room for n core numbers.
 pub record ValidCall (s : List ℕ) (room : ℕ) : Type 0 where
-  pub table : Valid s 0
+  pub table : Valid s 0 (everyAffinity s)
   pub fits : taskCount s ≤ room
 
 -- Its refusals: the table's, then number 8, a buffer shorter than n.
@@ -30,12 +30,12 @@ pub record Answers (s buffer : List ℕ) (code : ℕ) (after : List ℕ) : Type 
 -- Demand 2, of a call that is not refused.
 pub record Keeps (s buffer : List ℕ) (limit code : ℕ) (after : List ℕ) : Type 0 where
   -- The code is 2 exactly if the walk is longer than the limit;
-  pub spent : (code ≡ 2) ↔ (limit < length (walkOf (fieldsOf s 0)))
+  pub spent : (code ≡ 2) ↔ (limit < length (walkOf (fieldsAlone s)))
   -- unless it is 2, it is 0 exactly if a full placement exists.
-  pub all : code ≢ 2 → (code ≡ 0) ↔ ((q : List ℕ) × Feasible (tableProblem (fieldsOf s 0)) q × Full q)
+  pub all : code ≢ 2 → (code ≡ 0) ↔ ((q : List ℕ) × Feasible (tableProblem (fieldsAlone s)) q × Full q)
   -- The first n bytes are the core numbers of a plan that keeps the planner's promise,
   pub plan : Allocation
-  pub promise : Promise (fieldsOf s 0) limit plan
-  pub written : take (taskCount s) after ≡ choicesOf (fieldsOf s 0) (plan .placement)
+  pub promise : Promise (fieldsAlone s) limit plan
+  pub written : take (taskCount s) after ≡ choicesOf (fieldsAlone s) (plan .placement)
   -- and every byte from n on is what it was.
   pub beyond : drop (taskCount s) after ≡ drop (taskCount s) buffer

@@ -40,6 +40,28 @@ fn write_front(buffer: &mut [u8], cores: [u8; 16], n: usize)
     }
 }
 
+// Plans a stored table and writes the plan; the entry's work, in a function of its own since the entry then takes less stack.
+fn plan_into(table: &[u8], limit: u32, plan: &mut [u8]) -> u32
+    ensures code { λ r. ⌜ r ≡ codeFor (now (table .entry)) limit (length (now (plan .entry))) ⌝ }
+    ensures buffer { λ r. ⌜ now (plan .exit) ≡ bufferAfter (now (table .entry)) limit (now (plan .entry)) ⌝ }
+{
+    let reading = stored::read_table(table);
+    let n = reading.tasks.fields.n;
+    let read = reading.outcome;
+    let fits = buffer_test(n, plan.len());
+    let outcome = refusal::then(read, fits);
+    match outcome {
+        Outcome::Refused(cause) => code(Verdict::Refused(cause)),
+        Outcome::Accepted => {
+            let answer = planner::plan_tasks(reading.tasks, limit);
+            let cores = answer.placement;
+            write_front(plan, cores, n);
+            let verdict = answer.verdict;
+            code(verdict)
+        }
+    }
+}
+
 // Plans a stored table in at most `limit` steps: 0 all, 1 short, 2 spent, or 100 plus the refusal number.
 // The n core numbers go to the front of `plan`; a refusal writes nothing.
 #[no_mangle]
@@ -49,20 +71,5 @@ pub extern "C" fn millplan_plan(table: &[u8], limit: u32, plan: &mut [u8]) -> u3
     ensures answers { λ r. ⌜ Answers (now (table .entry)) (now (plan .entry)) r (now (plan .exit)) ⌝ }
     ensures keeps { λ r. ⌜ (r ≤ 2 → Keeps (now (table .entry)) (now (plan .entry)) limit r (now (plan .exit))) ⌝ }
 {
-    let reading = stored::read_charged(table, 0);
-    let tasks = reading.tasks;
-    let n = tasks.fields.n;
-    let read = reading.outcome;
-    let fits = buffer_test(n, plan.len());
-    let outcome = refusal::then(read, fits);
-    match outcome {
-        Outcome::Refused(cause) => code(Verdict::Refused(cause)),
-        Outcome::Accepted => {
-            let answer = planner::plan_tasks(tasks, limit);
-            let cores = answer.placement;
-            write_front(plan, cores, n);
-            let verdict = answer.verdict;
-            code(verdict)
-        }
-    }
+    plan_into(table, limit, plan)
 }

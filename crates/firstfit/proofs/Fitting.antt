@@ -2,6 +2,7 @@
 use Prim.Native.Nat.{ℕ, suc, _+_, _-_, _≤_, _<_}
 use native.Mathlib.Nat.{le-trans, le-refl, add-zero}
 use native.Mathlib.Decide.{ℕ-discrete}
+use native.Mathlib.Numerals.{add-one}
 use native.Mathlib.Omega.{arith}
 use mathlib.Core.Path.{_≡_, refl, sym, ap, _∙_}
 use mathlib.Core.Bool.{cond}
@@ -26,9 +27,9 @@ use Rattle.search.specs.Search.{Ranges}
 use Rattle.firstfit.specs.Fitted.{holds, fittedOf}
 use Rattle.firstfit.specs.declared.Fitted.{Fitted}
 
-module _ (row : List ℕ) (n m h : ℕ) where
+module _ (row affinity : List ℕ) (n m h : ℕ) where
   abbrev P : Problem
-  P = problemOf h m (take n row)
+  P = problemOf h m (take n row) (take n affinity)
 
   -- k tasks have their choice; the rejected demand `out` and the cores' loads are theirs, and first fit goes on from them
   pub record Fitting (placement loads : List ℕ) (out k : ℕ) : Type 0 where
@@ -86,14 +87,14 @@ module _ (row : List ℕ) (n m h : ℕ) where
           ∙ rw (s .count, getD-take n row k 0 below, s .loads-are c)
 
       -- the core that the code looks for
-      fit-core : first (holds loads (getD row k 0) h) m ≡ lowestFit P (s .chosen)
+      fit-core : first (holds loads (getD affinity k 0) (getD row k 0) h) m ≡ lowestFit P (s .chosen)
       unfolding lowestFit
       fit-core = ap (λ test. first test m) (λ i j. same j i)
         where
-          same : (j : ℕ) → holds loads (getD row k 0) h j ≡ fits P (s .chosen) (suc j)
-          same j = rw (ne-eqb (suc j) 0 (λ q. omega arith), more (suc j))
+          same : (j : ℕ) → holds loads (getD affinity k 0) (getD row k 0) h j ≡ fits P (s .chosen) (suc j)
+          same j = rw (ne-eqb (suc j) 0 (λ q. omega arith), more (suc j), s .count, getD-take n affinity k 0 below, add-one j)
 
-      module _ {core : ℕ} (e : core ≡ first (holds loads (getD row k 0) h) m) where
+      module _ {core : ℕ} (e : core ≡ first (holds loads (getD affinity k 0) (getD row k 0) h) m) where
         chosen-is : core ≡ lowestFit P (s .chosen)
         chosen-is = e ∙ fit-core
 

@@ -1,4 +1,4 @@
-// First fit, on demands in planning order: each task on the lowest core where it still fits, or left out.
+// First fit, on demands in planning order: each task on the lowest permitted core where it still fits, or left out.
 ghost use mathlib.Core.Path.{_≡_};
 ghost use Prim.Native.Nat.{_≤_};
 ghost use lib.ListN.{take};
@@ -13,14 +13,14 @@ pub struct Fitted {
     pub rejected: u32,
 }
 
-// The lowest of m cores that holds demand d beside its load; 0 if none does.
-fn lowest_core(loads: [u32; 4], d: u32, m: usize, h: u32) -> usize
+// The lowest of m cores that a task's core byte permits and that holds its demand d beside its load; 0 if none does.
+fn lowest_core(loads: [u32; 4], byte: u8, d: u32, m: usize, h: u32) -> usize
     requires { ⌜ (m ≤ 4) × (d ≤ h) ⌝ }
-    ensures { λ r. ⌜ r ≡ first (holds loads d h) m ⌝ }
+    ensures { λ r. ⌜ r ≡ first (holds loads byte d h) m ⌝ }
 {
     let mut k = 0;
     while k < m {
-        if moves::has_room(loads[k], d, h) {
+        if moves::has_room(byte, k as u32, loads[k], d, h) {
             return k + 1;
         }
         k += 1;
@@ -28,10 +28,10 @@ fn lowest_core(loads: [u32; 4], d: u32, m: usize, h: u32) -> usize
     0
 }
 
-// First fit of n demands on m cores and the hyperperiod h.
-pub fn first_fit(demands: [u32; 16], n: usize, m: usize, h: u32) -> Fitted
+// First fit of n demands, with their tasks' core bytes, on m cores and the hyperperiod h.
+pub fn first_fit(demands: [u32; 16], affinity: [u8; 16], n: usize, m: usize, h: u32) -> Fitted
     requires { ⌜ Ranges demands n m h ⌝ }
-    ensures { λ r. ⌜ r ≡ fittedOf (problemOf h m (take n demands)) ⌝ }
+    ensures { λ r. ⌜ r ≡ fittedOf (problemOf h m (take n demands) (take n affinity)) ⌝ }
 {
     let mut placement = [0u8; 16];
     let mut loads = [0u32; 4];
@@ -39,7 +39,7 @@ pub fn first_fit(demands: [u32; 16], n: usize, m: usize, h: u32) -> Fitted
     let mut k = 0;
     while k < n {
         let d = demands[k];
-        let core = lowest_core(loads, d, m, h);
+        let core = lowest_core(loads, affinity[k], d, m, h);
         let choice = core as u32;
         let more = moves::with_more(loads, choice, d);
         let next = numbers::with_byte(placement, k, core as u8);

@@ -3,6 +3,8 @@ use Prim.Native.Nat.{ℕ, _+_, _*_, _≤_, _<_}
 use mathlib.Core.Path.{_≡_, refl}
 use mathlib.Core.List.{List}
 use mathlib.Core.Logic.{_↔_}
+use Rattle.numbers.specs.Rows.{entry}
+use Rattle.numbers.proofs.RowLaws.{getD-row}
 use Rattle.refusal.specs.Conditions.{Gives}
 use Rattle.taskset.specs.Fields.{periodAt, budgetAt}
 use Rattle.taskset.specs.Demands.{hyperperiodOf, demandOf}
@@ -23,55 +25,63 @@ use Rattle.guarantees.proofs.LoadLaws.{started-load}
 
 pub demand-one : DemandOne
 demand-one = record {
-  within = λ table charge limit v. plan-decides table charge limit refl .accepted .1 v;
-  outside = λ table charge limit. plan-decides table charge limit refl .refused;
-  quick = λ table charge. quick-decides table charge refl;
-  ceiling = λ table charge. ceiling-decides table charge refl;
+  within = λ table charge affinity limit v. plan-decides table charge affinity limit refl .accepted .1 v;
+  outside = λ table charge affinity limit. plan-decides table charge affinity limit refl .refused;
+  quick = λ table charge affinity. quick-decides table charge affinity refl;
+  ceiling = λ table charge affinity. ceiling-decides table charge affinity refl;
   reader = λ table. read-alone table refl;
-  fresh = λ table charge placement core. start-decides table charge placement core refl;
+  fresh = λ table charge affinity placement core. start-decides table charge affinity placement core refl;
   tick = answer-decides;
   entry = call-answers;
-  reads = λ table charge. read-reads table charge refl;
-  plans = λ table charge limit. plan-promised table charge limit refl;
-  quicks = λ table charge. quick-answered table charge refl .refused;
-  ceilings = λ table charge. ceiling-refused table charge refl;
-  starts = λ table charge placement core. start-promised table charge placement core refl;
+  reads = λ table charge affinity. read-reads table charge affinity refl;
+  plans = λ table charge affinity limit. plan-promised table charge affinity limit refl;
+  quicks = λ table charge affinity. quick-answered table charge affinity refl .refused;
+  ceilings = λ table charge affinity. ceiling-refused table charge affinity refl;
+  starts = λ table charge affinity placement core. start-promised table charge affinity placement core refl;
   ticks = answer-refused;
   unchanged = refusal-writes-nothing;
 }
 
 pub demand-two : DemandTwo
-demand-two table charge limit v = plan-promised table charge limit refl .promise v
+demand-two table charge affinity limit v = plan-promised table charge affinity limit refl .promise v
 
 pub ceiling-demand : CeilingDemand
 ceiling-demand = record {
-  walk = λ table charge. plan-promised table charge 0 refl .walks;
-  sum = λ table charge. ceiling-promise table charge refl .sum;
-  steps = λ table charge. ceiling-promise table charge refl .steps;
-  unspent = λ table charge. ceiling-promise table charge refl .unspent;
+  walk = λ table charge affinity. plan-promised table charge affinity 0 refl .walks;
+  ceils = λ table charge affinity. ceiling-promise table charge affinity refl .valid;
+  unspent = λ table charge affinity. ceiling-promise table charge affinity refl .unspent;
   usual = few-unspent;
 }
 
 -- a core of a valid table and placement is accepted exactly if its load fits
-starts-exactly : (table : List ℕ) (charge : ℕ) (placement : List ℕ) (core : ℕ) → Valid table charge → ValidPlacement table placement → 1 ≤ core → core ≤ coreCount table
-    → Gives (startOf table charge placement core .outcome) 0 0 ↔ (exactLoad table charge placement core ≤ hyperperiodOf (fieldsOf table charge))
+starts-exactly : (table : List ℕ) (charge : ℕ) (affinity placement : List ℕ) (core : ℕ) → Valid table charge affinity → ValidPlacement table affinity placement → 1 ≤ core → core ≤ coreCount table
+    → Gives (startOf table charge affinity placement core .outcome) 0 0 ↔ (exactLoad table charge affinity placement core ≤ hyperperiodOf (fieldsOf table charge affinity))
 unfolding taskSetOf fieldsOf
-starts-exactly table charge placement core v p least most = (
-  λ e. rw (← same) (start-decides table charge placement core refl .accepted .0 e .1 .fits),
-  λ h. start-decides table charge placement core refl .accepted .1 (v, record { exact = p .exact; entries = p .entries; number = (least, most); fits = rw same h }),
+starts-exactly table charge affinity placement core v p least most = (
+  λ e. rw (← same) (start-decides table charge affinity placement core refl .accepted .0 e .1 .fits),
+  λ h. start-decides table charge affinity placement core refl .accepted .1 (
+    v,
+    record {
+      exact = p .exact;
+      entries = p .entries;
+      permitted = λ k l i. rw (getD-row 0 (taskCount table) (entry affinity) k l (v .fields .sizes .tasks .1)) (p .permits k l i);
+      number = (least, most);
+      fits = rw same h;
+    },
+  ),
 )
   where
-    same : loadOf (taskSetOf (fieldsOf table charge)) placement core ≡ exactLoad table charge placement core
-    same = started-load table charge placement core (p .exact) (v .fields .sizes .tasks .1)
+    same : loadOf (taskSetOf (fieldsOf table charge affinity)) placement core ≡ exactLoad table charge affinity placement core
+    same = started-load table charge affinity placement core (p .exact) (v .fields .sizes .tasks .1)
 
-exactly : (table : List ℕ) (charge : ℕ) → Valid table charge → (k : ℕ) → k < taskCount table
-    → demandOf (fieldsOf table charge) k * periodAt (fieldsOf table charge) k ≡ (budgetAt (fieldsOf table charge) k + charge) * hyperperiodOf (fieldsOf table charge)
+exactly : (table : List ℕ) (charge : ℕ) (affinity : List ℕ) → Valid table charge affinity → (k : ℕ) → k < taskCount table
+    → demandOf (fieldsOf table charge affinity) k * periodAt (fieldsOf table charge affinity) k ≡ (budgetAt (fieldsOf table charge affinity) k + charge) * hyperperiodOf (fieldsOf table charge affinity)
 unfolding fieldsOf
-exactly table charge v k h = demand-exact (v .fields) h
+exactly table charge affinity v k h = demand-exact (v .fields) h
 
 pub demand-three : DemandThree
 demand-three = record {
   accepted = starts-exactly;
   exact = exactly;
-  ticks = λ table charge placement core e. start-promised table charge placement core refl .accepted e .ticks;
+  ticks = λ table charge affinity placement core e. start-promised table charge affinity placement core refl .accepted e .ticks;
 }

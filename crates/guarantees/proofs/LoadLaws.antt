@@ -17,16 +17,16 @@ use Rattle.stored.specs.Form.{fieldsOf}
 use Rattle.start.specs.Starts.{loadOf}
 use Rattle.guarantees.specs.Demands.{exactLoad}
 
-module _ (table : List ℕ) (charge : ℕ) (placement : List ℕ) (core : ℕ) (long : length placement ≡ fieldsOf table charge .n) where
-  pub planned-load : demandOn core (tab (fieldsOf table charge .n) (demandOf (fieldsOf table charge))) placement ≡ exactLoad table charge placement core
+module _ (table : List ℕ) (charge : ℕ) (affinity placement : List ℕ) (core : ℕ) (long : length placement ≡ fieldsOf table charge affinity .n) where
+  pub planned-load : demandOn core (tab (fieldsOf table charge affinity .n) (demandOf (fieldsOf table charge affinity))) placement ≡ exactLoad table charge affinity placement core
   unfolding fieldsOf share
   planned-load =
-      let n = fieldsOf table charge .n in
-      let ws = tab n (demandOf (fieldsOf table charge)) in
-      demand-listed core ws placement (long ∙ sym (length-tab 0 n (demandOf (fieldsOf table charge))))
-      ∙ ap (sumTo (share core ws placement)) (length-tab 0 n (demandOf (fieldsOf table charge)))
-      ∙ sumTo-cong (share core ws placement) _ n (λ k h. ap (λ x. cond (eqb (entry placement k) core) x 0) (getD-tab 0 n (demandOf (fieldsOf table charge)) k h))
+      let n = fieldsOf table charge affinity .n in
+      let ws = tab n (demandOf (fieldsOf table charge affinity)) in
+      demand-listed core ws placement (long ∙ sym (length-tab 0 n (demandOf (fieldsOf table charge affinity))))
+      ∙ ap (sumTo (share core ws placement)) (length-tab 0 n (demandOf (fieldsOf table charge affinity)))
+      ∙ sumTo-cong (share core ws placement) _ n (λ k h. ap (λ x. cond (eqb (entry placement k) core) x 0) (getD-tab 0 n (demandOf (fieldsOf table charge affinity)) k h))
 
-  pub started-load : fieldsOf table charge .n ≤ 16 → loadOf (taskSetOf (fieldsOf table charge)) placement core ≡ exactLoad table charge placement core
+  pub started-load : fieldsOf table charge affinity .n ≤ 16 → loadOf (taskSetOf (fieldsOf table charge affinity)) placement core ≡ exactLoad table charge affinity placement core
   unfolding taskSetOf loadOf
-  started-load few = ap (λ ws. demandOn core ws placement) (take-row-tab (fieldsOf table charge .n) (demandOf (fieldsOf table charge)) few) ∙ planned-load
+  started-load few = ap (λ ws. demandOn core ws placement) (take-row-tab (fieldsOf table charge affinity .n) (demandOf (fieldsOf table charge affinity)) few) ∙ planned-load

@@ -22,40 +22,40 @@ pub data Plan : Type 0 where
   exactly : ℕ → Plan
   quickly : Plan
 
--- its row of sixteen for a table and a charge, and its left-out demand
-abbrev pub rowOf : List ℕ → ℕ → Plan → List ℕ
-rowOf table charge (exactly limit) = planOf table charge limit .placement
-rowOf table charge quickly = quickOf table charge .placement
+-- its row of sixteen for a table, a charge and core bytes, and its left-out demand
+abbrev pub rowOf : List ℕ → ℕ → List ℕ → Plan → List ℕ
+rowOf table charge affinity (exactly limit) = planOf table charge affinity limit .placement
+rowOf table charge affinity quickly = quickOf table charge affinity .placement
 
-abbrev pub leftOutOf : List ℕ → ℕ → Plan → ℕ
-leftOutOf table charge (exactly limit) = planOf table charge limit .rejected
-leftOutOf table charge quickly = quickOf table charge .rejected
+abbrev pub leftOutOf : List ℕ → ℕ → List ℕ → Plan → ℕ
+leftOutOf table charge affinity (exactly limit) = planOf table charge affinity limit .rejected
+leftOutOf table charge affinity quickly = quickOf table charge affinity .rejected
 
 -- the placement that it gives the table's tasks
-abbrev pub placementOf : List ℕ → ℕ → Plan → List ℕ
-placementOf table charge plan = choicesOf (fieldsOf table charge) (rowOf table charge plan)
+abbrev pub placementOf : List ℕ → ℕ → List ℕ → Plan → List ℕ
+placementOf table charge affinity plan = choicesOf (fieldsOf table charge affinity) (rowOf table charge affinity plan)
 
 -- the tasks under that placement
-abbrev pub tasksOf : List ℕ → ℕ → Plan → Tasks
-tasksOf table charge plan = placedTasks (fieldsOf table charge) (placementOf table charge plan)
+abbrev pub tasksOf : List ℕ → ℕ → List ℕ → Plan → Tasks
+tasksOf table charge affinity plan = placedTasks (fieldsOf table charge affinity) (placementOf table charge affinity plan)
 
 -- the fresh record of the core that has the task at k
-abbrev pub recordOf : List ℕ → ℕ → Plan → ℕ → Core
-recordOf table charge plan k = startOf table charge (placementOf table charge plan) (entry (placementOf table charge plan) k) .core
+abbrev pub recordOf : List ℕ → ℕ → List ℕ → Plan → ℕ → Core
+recordOf table charge affinity plan k = startOf table charge affinity (placementOf table charge affinity plan) (entry (placementOf table charge affinity plan) k) .core
 
 -- the answers to a list of ticks from that record
-abbrev pub answersOf : List ℕ → ℕ → Plan → ℕ → List (List ℕ) → List TickAnswer
-answersOf table charge plan k ticks = ticked (recordOf table charge plan k .charge) (recordOf table charge plan k .slots) ticks
+abbrev pub answersOf : List ℕ → ℕ → List ℕ → Plan → ℕ → List (List ℕ) → List TickAnswer
+answersOf table charge affinity plan k ticks = ticked (recordOf table charge affinity plan k .charge) (recordOf table charge affinity plan k .slots) ticks
 
--- For every valid table, with any charge, and every plan of it, spent or not:
+-- For every valid table, with any charge and core bytes, and every plan of it, spent or not:
 pub record Chain : Type 0 where
   -- each core of its placement is accepted as a fresh core,
-  pub starts : (table : List ℕ) (charge : ℕ) (plan : Plan) (core : ℕ) → Valid table charge → 1 ≤ core → core ≤ coreCount table
-      → startOf table charge (placementOf table charge plan) core .outcome ≡ Accepted
+  pub starts : (table : List ℕ) (charge : ℕ) (affinity : List ℕ) (plan : Plan) (core : ℕ) → Valid table charge affinity → 1 ≤ core → core ≤ coreCount table
+      → startOf table charge affinity (placementOf table charge affinity plan) core .outcome ≡ Accepted
   -- so that every task that is placed receives in every complete period exactly what it asked for, up to its time, and the charge if it asked for any,
-  pub served : (table : List ℕ) (charge : ℕ) (plan : Plan) → Valid table charge → (ticks : List (List ℕ)) (k p : ℕ) → k < taskCount table
-      → 1 ≤ entry (placementOf table charge plan) k
-      → periodStart (tasksOf table charge plan) k (p + 1) ≤ length ticks
-      → receivedIn (tasksOf table charge plan) (answersOf table charge plan k ticks) k p ≡ owedIn (tasksOf table charge plan) ticks k p
+  pub served : (table : List ℕ) (charge : ℕ) (affinity : List ℕ) (plan : Plan) → Valid table charge affinity → (ticks : List (List ℕ)) (k p : ℕ) → k < taskCount table
+      → 1 ≤ entry (placementOf table charge affinity plan) k
+      → periodStart (tasksOf table charge affinity plan) k (p + 1) ≤ length ticks
+      → receivedIn (tasksOf table charge affinity plan) (answersOf table charge affinity plan k ticks) k p ≡ owedIn (tasksOf table charge affinity plan) ticks k p
   -- and the answer says exactly which tasks are left out: the left-out demand is that of the tasks whose entry is 0.
-  pub left-out : (table : List ℕ) (charge : ℕ) (plan : Plan) → Valid table charge → leftOutOf table charge plan ≡ exactLoad table charge (placementOf table charge plan) 0
+  pub left-out : (table : List ℕ) (charge : ℕ) (affinity : List ℕ) (plan : Plan) → Valid table charge affinity → leftOutOf table charge affinity plan ≡ exactLoad table charge affinity (placementOf table charge affinity plan) 0

@@ -7,7 +7,7 @@ use lib.ListN.{length, replicate}
 use Rattle.numbers.specs.Rows.{row, entry}
 use Rattle.refusal.specs.Conditions.{Gives}
 use Rattle.refusal.specs.declared.Outcome.the-variants.{Accepted}
-use Rattle.stored.specs.Form.{tableOf}
+use Rattle.stored.specs.Form.{tableOf, everyAffinity}
 use Rattle.stored.specs.Tests.{readingOf}
 use Rattle.planner.specs.Plan.{planOf, verdictOutcome}
 use Rattle.planner.specs.declared.Verdict.{Verdict}
@@ -26,7 +26,7 @@ use Rattle.report.specs.Output.{outputOf}
 -- A row: a table's hyperperiod; a plan with its verdict, cores, left-out demand and steps; a quick plan with its cores and left-out demand;
 -- a step ceiling; a refusal with its number and place; a fresh core's slots, or its refusal; the tasks run by the ticks of a fresh core; one tick of
 -- given slots, with the task run, the late task and the next slots, or its refusal's place; the whole output of the program, and that of the quick
--- one. Last, a row of these on a board with a charge.
+-- one. Last, a row of these on a board with a charge, and one with core bytes.
 pub data Row : Type 0 where
   frames : List ℕ → ℕ → Row
   plans : List ℕ → ℕ → Verdict → List ℕ → ℕ → ℕ → Row
@@ -41,32 +41,34 @@ pub data Row : Type 0 where
   prints : List ℕ → String → Row
   printsQuick : List ℕ → String → Row
   charged : ℕ → Row → Row
+  tied : List ℕ → Row → Row
 
--- what a row says where this is the board's charge; the programs go by charge 0
-abbrev pub Holds : ℕ → Row → Type 0
-Holds charge (frames bytes hyperperiod) = readingOf bytes charge .tasks .hyperperiod ≡ hyperperiod
-Holds charge (plans bytes limit verdict cores rejected steps) =
-    planOf bytes charge limit ≡ record { verdict = verdict; placement = row 0 (length cores) (entry cores); rejected = rejected; steps = steps }
-Holds charge (quick bytes cores rejected) =
-    quickOf bytes charge ≡ record { outcome = Accepted; placement = row 0 (length cores) (entry cores); rejected = rejected }
-Holds charge (ceilings bytes ceiling) = ceilingOf bytes charge ≡ record { outcome = Accepted; ceiling = ceiling }
-Holds charge (refuses bytes limit number place) = Gives (verdictOutcome (planOf bytes charge limit .verdict)) number place
-Holds charge (starts bytes placement core slots) =
-    startOf bytes charge placement core ≡ record { outcome = Accepted; core = record { slots = slots; charge = charge } }
-Holds charge (refusesCore bytes placement core number place) = Gives (startOf bytes charge placement core .outcome) number place
-Holds charge (ticks bytes placement core requests ran) =
-    runs (ticked (startOf bytes charge placement core .core .charge) (startOf bytes charge placement core .core .slots) requests) ≡ ran
-Holds charge (tickOnce slots requests run late next) =
+-- what a row says where this is the board's charge, and these are a table's core bytes; the programs go by charge 0 and permit every core
+abbrev pub Holds : ℕ → (List ℕ → List ℕ) → Row → Type 0
+Holds charge bytes (frames table hyperperiod) = readingOf table charge (bytes table) .tasks .hyperperiod ≡ hyperperiod
+Holds charge bytes (plans table limit verdict cores rejected steps) =
+    planOf table charge (bytes table) limit ≡ record { verdict = verdict; placement = row 0 (length cores) (entry cores); rejected = rejected; steps = steps }
+Holds charge bytes (quick table cores rejected) =
+    quickOf table charge (bytes table) ≡ record { outcome = Accepted; placement = row 0 (length cores) (entry cores); rejected = rejected }
+Holds charge bytes (ceilings table ceiling) = ceilingOf table charge (bytes table) ≡ record { outcome = Accepted; ceiling = ceiling }
+Holds charge bytes (refuses table limit number place) = Gives (verdictOutcome (planOf table charge (bytes table) limit .verdict)) number place
+Holds charge bytes (starts table placement core slots) =
+    startOf table charge (bytes table) placement core ≡ record { outcome = Accepted; core = record { slots = slots; charge = charge } }
+Holds charge bytes (refusesCore table placement core number place) = Gives (startOf table charge (bytes table) placement core .outcome) number place
+Holds charge bytes (ticks table placement core requests ran) =
+    runs (ticked (startOf table charge (bytes table) placement core .core .charge) (startOf table charge (bytes table) placement core .core .slots) requests) ≡ ran
+Holds charge bytes (tickOnce slots requests run late next) =
     tick charge slots requests ≡ record { refusal = 0; place = 0; charge = charge; slots = next; run = run; late = late }
-Holds charge (refusesTick slots place) = tick charge slots [] ≡ record { refusal = 12; place = place; charge = charge; slots = slots; run = 0; late = 0 }
-Holds charge (prints bytes output) = outputOf bytes ≡ ascii output
-Holds charge (printsQuick bytes output) = quickOutputOf bytes ≡ ascii output
-Holds charge (charged own row) = Holds own row
+Holds charge bytes (refusesTick slots place) = tick charge slots [] ≡ record { refusal = 12; place = place; charge = charge; slots = slots; run = 0; late = 0 }
+Holds charge bytes (prints table output) = outputOf table ≡ ascii output
+Holds charge bytes (printsQuick table output) = quickOutputOf table ≡ ascii output
+Holds charge bytes (charged own row) = Holds own bytes row
+Holds charge bytes (tied own row) = Holds charge (λ table. own) row
 
--- every row of a list holds; where a row names no charge, it is 0
+-- every row of a list holds; where a row names no charge, it is 0, and where it names no core bytes, every core is permitted
 abbrev pub AllHold : List Row → Type 0
 AllHold [] = Unit {0}
-AllHold (r ∷ rs) = Holds 0 r × AllHold rs
+AllHold (r ∷ rs) = Holds 0 everyAffinity r × AllHold rs
 
 -- the table of the listing, and that of row c
 abbrev pub listing : List ℕ
@@ -114,6 +116,48 @@ slot period budget until remaining = record { period = period; budget = budget; 
 abbrev pub front : List Slot → List Slot
 front slots = slots ++ replicate (16 - length slots) emptySlot
 
+-- two and three full tasks on as many cores
+abbrev pub two : List ℕ
+two = tableOf 2 (4 ∷ 4 ∷ []) (4 ∷ 4 ∷ [])
+
+abbrev pub three : List ℕ
+three = tableOf 3 (4 ∷ 4 ∷ 4 ∷ []) (4 ∷ 4 ∷ 4 ∷ [])
+
+-- three tasks of these times on two cores
+abbrev pub loose : ℕ → ℕ → ℕ → List ℕ
+loose a b c = tableOf 2 (10 ∷ 10 ∷ 10 ∷ []) (a ∷ b ∷ c ∷ [])
+
+-- Tasks tied to cores. Two full tasks that want each other's core: the rule of the empty core alone would lose the plan. Three full tasks, of which
+-- the placed ones judge twins too: 7 steps. A core that only the heaviest and a light task may use, which is then left out. Two full tasks of which
+-- the first may use either core: twins by the first task alone would lose the plan; first fit leaves the second out, and is stored after two steps.
+-- Step ceilings: of two tasks on three cores, every core permitted; with the second tied to two; by planning order and not by the table's.
+-- A row of core bytes is refused after a time plus charge and before the hyperperiod: too long, too short, a byte of 0, a bit above core m, bit 4.
+-- A core that is not permitted is refused after the whole of 9 and before the core number, also where it is not the chosen one; left out is permitted.
+unfoldable pub ties : List Row
+ties =
+    tied (2 ∷ 1 ∷ []) (plans two 1000000 All (2 ∷ 1 ∷ []) 0 2)
+    ∷ tied (3 ∷ 6 ∷ 1 ∷ []) (plans three 1000000 All (2 ∷ 3 ∷ 1 ∷ []) 0 7)
+    ∷ tied (5 ∷ 2 ∷ 2 ∷ []) (plans (tableOf 3 (4 ∷ 4 ∷ 4 ∷ []) (1 ∷ 1 ∷ 4 ∷ [])) 1000000 Short (1 ∷ 0 ∷ 2 ∷ []) 1 3)
+    ∷ tied (3 ∷ 1 ∷ []) (plans two 1000000 All (2 ∷ 1 ∷ []) 0 4)
+    ∷ tied (3 ∷ 1 ∷ []) (plans two 2 Spent (1 ∷ 0 ∷ []) 4 2)
+    ∷ tied (3 ∷ 1 ∷ []) (quick two (1 ∷ 0 ∷ []) 4)
+    ∷ plans two 1000000 All (1 ∷ 2 ∷ []) 0 2
+    ∷ ceilings (tableOf 3 (10 ∷ 10 ∷ []) (2 ∷ 1 ∷ [])) 8
+    ∷ tied (7 ∷ 3 ∷ []) (ceilings (tableOf 3 (10 ∷ 10 ∷ []) (2 ∷ 1 ∷ [])) 16)
+    ∷ tied (1 ∷ 3 ∷ 3 ∷ []) (ceilings (loose 1 3 2) 30)
+    ∷ tied (1 ∷ 3 ∷ 3 ∷ []) (ceilings (loose 3 1 2) 26)
+    ∷ tied (1 ∷ 3 ∷ 3 ∷ 3 ∷ []) (refuses (loose 1 3 2) 1000000 15 0)
+    ∷ tied (0 ∷ 3 ∷ []) (refuses (loose 1 3 2) 1000000 15 0)
+    ∷ tied (1 ∷ 0 ∷ 4 ∷ []) (refuses (loose 1 3 2) 1000000 15 2)
+    ∷ tied (3 ∷ 3 ∷ 4 ∷ []) (refuses (loose 1 3 2) 1000000 15 3)
+    ∷ tied (15 ∷ 16 ∷ []) (refuses (tableOf 4 (1000 ∷ 1001 ∷ []) (1 ∷ 1 ∷ [])) 1000000 15 2)
+    ∷ charged 1 (tied (0 ∷ []) (refuses (tableOf 1 (1000 ∷ 1001 ∷ []) (1 ∷ 1001 ∷ [])) 1000000 14 2))
+    ∷ tied (3 ∷ 1 ∷ 3 ∷ []) (refusesCore (loose 1 3 2) (1 ∷ 2 ∷ 3 ∷ []) 1 9 3)
+    ∷ tied (3 ∷ 1 ∷ 3 ∷ []) (refusesCore (loose 1 3 2) (1 ∷ 2 ∷ 2 ∷ []) 1 16 2)
+    ∷ tied (3 ∷ 1 ∷ 2 ∷ []) (refusesCore (loose 1 3 2) (1 ∷ 0 ∷ 1 ∷ []) 7 16 3)
+    ∷ tied (3 ∷ 1 ∷ 2 ∷ []) (starts (loose 1 3 2) (2 ∷ 0 ∷ 2 ∷ []) 2 (front (slot 10 1 0 0 ∷ emptySlot ∷ slot 10 2 0 0 ∷ [])))
+    ∷ []
+
 -- Switch charges. Row a's table, which is full, is short with a charge, and its core is refused. A charge of 1 reorders two tasks, in the exact plan
 -- and the quick one. A charge of 9 fills a core alone, and an empty core's record carries it. A task of period 5 and time 2 asks for nothing, for one
 -- tick and for more than it may: with charge 1 it has 0, 2 and 3. A late slot owes its budget and the charge, the other is counted down.
@@ -141,7 +185,7 @@ charges =
     ∷ charged 1 (refuses (tableOf 1 (1000 ∷ 1001 ∷ []) (1 ∷ 1001 ∷ [])) 1000000 14 2)
     ∷ charged 10 (refusesTick (front (slot 0 1 0 0 ∷ [])) 0)
     ∷ charged 9 (refusesTick (front (slot 12 3 0 12 ∷ slot 12 4 0 0 ∷ [])) 2)
-    ∷ []
+    ∷ ties
 
 -- Empty cores. Five tasks of which no two fit together, on four cores: 5 steps, where 65 are made if each empty core is tried. Seven
 -- tasks on three cores: 24 steps (110), of which the 20th stores a better placement; then one step less, and the steps that are enough.

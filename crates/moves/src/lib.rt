@@ -1,14 +1,16 @@
 // What one move of the walk does: an array by value with one entry changed, the tests of a choice, and what the walk
 // starts from.
 ghost use mathlib.Core.Path.{_≡_};
-ghost use mathlib.Core.Bool.{cond};
+ghost use mathlib.Core.Bool.{cond, _&&_, xor};
 ghost use mathlib.Core.List.{_∷_};
 ghost use Prim.Native.Nat.{ℕ, _+_, _*_, _-_, _<_, _≤_};
 ghost use lib.Dec.{eqb, leb};
 ghost use lib.ListN.{getD, set, take};
 ghost use Rattle.numbers.specs.Loads.{sum};
+ghost use Rattle.affinity.specs.Permitted.{permitted};
+ghost use Rattle.allocation.specs.Rule.{twins};
 ghost use Rattle.allocation.specs.Walk.{triedBy};
-ghost use Rattle.moves.specs.Entry.{onCore, someZero};
+ghost use Rattle.moves.specs.Entry.{onCore, twinRows, someZeroTwin};
 
 // x where c is i, and y otherwise.
 pub fn pick(c: u32, i: u32, x: u32, y: u32) -> u32
@@ -88,25 +90,63 @@ pub fn resume(m: u32, c: u32, out: u32, bound: u32) -> u32
     tried_by(m, c)
 }
 
-// Whether a core with this load holds demand d too.
-pub fn has_room(load: u32, d: u32, h: u32) -> bool
-    requires { ⌜ d ≤ h ⌝ }
-    ensures { λ r. ⌜ r ≡ leb (load + d) h ⌝ }
+// Whether the core after `below` others, with this load, may hold a task too: the task's core byte permits it, and with
+// demand d the load is at most h.
+pub fn has_room(byte: u8, below: u32, load: u32, d: u32, h: u32) -> bool
+    requires { ⌜ (d ≤ h) × (below < 4) ⌝ }
+    ensures { λ r. ⌜ r ≡ (permitted byte (below + 1) && leb (load + d) h) ⌝ }
 {
-    load <= h - d
+    affinity::permits(byte, below) & (load <= h - d)
 }
 
-// Whether one of the cores 1 to k is empty.
-pub fn some_empty(loads: &[u32; 4], k: u32) -> bool
-    requires { ⌜ k ≤ 4 ⌝ }
-    ensures { λ r. ⌜ r ≡ someZero (now (loads .entry)) k ⌝ }
+// Whether a task with this core byte permits one of two cores alone, each the core after so many others.
+fn tells_apart(byte: u8, c: u32, d: u32) -> bool
+    requires { ⌜ (c < 4) × (d < 4) ⌝ }
+    ensures { λ r. ⌜ r ≡ xor (permitted byte (c + 1)) (permitted byte (d + 1)) ⌝ }
 {
-    let mut c = k;
-    while 0 < c {
-        c -= 1;
-        if loads[c as usize] == 0 {
+    affinity::permits(byte, c) != affinity::permits(byte, d)
+}
+
+// Whether two cores are twins: none of n tasks tells them apart.
+fn are_twins(affinity: [u8; 16], n: usize, c: u32, d: u32) -> bool
+    requires { ⌜ (n ≤ 16) × (c < 4) × (d < 4) ⌝ }
+    ensures { λ r. ⌜ r ≡ twins affinity n (c + 1) (d + 1) ⌝ }
+{
+    let mut k = 0;
+    while k < n {
+        if tells_apart(affinity[k], c, d) {
+            return false;
+        }
+        k += 1;
+    }
+    true
+}
+
+// Which cores are twins: entry 4 * c + d is whether those after c and d others are. Made once, before the walk.
+pub fn twin_rows(affinity: [u8; 16], n: usize) -> [bool; 16]
+    requires { ⌜ n ≤ 16 ⌝ }
+    ensures { λ r. ⌜ r ≡ twinRows affinity n ⌝ }
+{
+    let mut rows = [false; 16];
+    let mut i: usize = 0;
+    while i < 16 {
+        rows[i] = are_twins(affinity, n, (i / 4) as u32, (i % 4) as u32);
+        i += 1;
+    }
+    rows
+}
+
+// Whether a core below the core after k others is empty, and its twin.
+pub fn some_empty_twin(loads: &[u32; 4], rows: &[bool; 16], k: u32) -> bool
+    requires { ⌜ k < 4 ⌝ }
+    ensures { λ r. ⌜ r ≡ someZeroTwin (now (loads .entry)) (now (rows .entry)) k k ⌝ }
+{
+    let mut d: u32 = 0;
+    while d < k {
+        if (loads[d as usize] == 0) & rows[(4 * k + d) as usize] {
             return true;
         }
+        d += 1;
     }
     false
 }

@@ -11,6 +11,7 @@ use Rattle.numbers.proofs.ReorderLaws.{scatter-padded}
 use Rattle.numbers.proofs.RowLaws.{row-each}
 use Rattle.refusal.specs.declared.Cause.{Cause}
 use Rattle.refusal.specs.declared.Outcome.the-variants as outcome
+use Rattle.taskset.specs.Fields.{affinityAt}
 use Rattle.taskset.specs.Demands.{hyperperiodOf, demandOf}
 use Rattle.taskset.specs.Reading.{taskSetOf}
 use Rattle.taskset.specs.Limits.{Checked}
@@ -22,8 +23,8 @@ use Rattle.stored.specs.Tests.{readingOf}
 use Rattle.stored.proofs.TableLaws.{read-outcome, read-tasks}
 use Rattle.planning.specs.Order.{precedes, planningOrder, Listed}
 use Rattle.planning.proofs.OrderLaws.{planning-front, planning-is}
-use Rattle.planning.proofs.ListedLaws.{gathered-tasks, gathered-each}
-use Rattle.allocation.specs.Placement.{problemOf, anyCore}
+use Rattle.planning.proofs.ListedLaws.{gathered-tasks, gathered-entries, gathered-each}
+use Rattle.allocation.specs.Placement.{problemOf}
 use Rattle.allocation.specs.Walk.{WalkAnswer, answer}
 use Rattle.allocation.specs.TableOrder.{inPlanningOrder, tableAnswer}
 use Rattle.search.specs.Search.{Ranges, foundOf}
@@ -80,36 +81,45 @@ module _ {t : TaskSet} (c : Checked t) where
         ∙ ap (λ l. row 0 (t .fields .n) (entry (scatter (orderOf (t .fields)) l))) z
         ∙ ap (λ l. row 0 (t .fields .n) (entry l)) (scatter-padded (orderOf (t .fields)) p)
 
-    module _ {d : List ℕ} (q : d ≡ row 0 (t .fields .n) (entry (gather (take (t .fields .n) o) (t .demands)))) where
-      -- the search is given the table's problem in planning order
-      pub problem-is : problemOf (t .hyperperiod) (t .fields .m) (take (t .fields .n) d) ≡ inPlanningOrder (tableProblem (t .fields)) (orderOf (t .fields))
-      unfolding tableProblem
-      problem-is =
-          let w : take (t .fields .n) d ≡ gather (orderOf (t .fields)) (tab (t .fields .n) (demandOf (t .fields))) =
-          rw (q, demands-are) (gathered-tasks order-listed (demandOf (t .fields)) ∙ ap (λ l. gather l (tab (t .fields .n) (demandOf (t .fields)))) front) in
-          λ i. record { capacity = hyperperiod-is i; cores = t .fields .m; demands = w i; permits = anyCore }
+    -- the core bytes in planning order are those of the table's problem
+    pub bytes-are : {b : List ℕ} → b ≡ row 0 (t .fields .n) (entry (gather (take (t .fields .n) o) (t .fields .affinity)))
+        → take (t .fields .n) b ≡ gather (orderOf (t .fields)) (tab (t .fields .n) (affinityAt (t .fields)))
+    bytes-are u =
+        rw u (gathered-entries order-listed (t .fields .affinity) ∙ ap (λ l. gather l (tab (t .fields .n) (affinityAt (t .fields)))) front)
 
+    module _ {d : List ℕ} (q : d ≡ row 0 (t .fields .n) (entry (gather (take (t .fields .n) o) (t .demands)))) where
       pub ordered-small : (k : ℕ) → getD d k 0 ≤ t .hyperperiod
       ordered-small k = rw q (gathered-each order-listed (λ x. x ≤ t .hyperperiod) (t .demands) zero-le (λ j h. demand-small j) k)
 
-      -- and what it finds, back in table order, is the plan
-      module _ (limit : ℕ) {found : Found} (w : found ≡ foundOf (answer (problemOf (t .hyperperiod) (t .fields .m) (take (t .fields .n) d)) limit)) where
-        a : WalkAnswer
-        a = answer (inPlanningOrder (tableProblem (t .fields)) (orderOf (t .fields))) limit
+      module _ {b : List ℕ} (u : b ≡ row 0 (t .fields .n) (entry (gather (take (t .fields .n) o) (t .fields .affinity)))) where
+        -- the search is given the table's problem in planning order
+        pub problem-is : problemOf (t .hyperperiod) (t .fields .m) (take (t .fields .n) d) (take (t .fields .n) b)
+            ≡ inPlanningOrder (tableProblem (t .fields)) (orderOf (t .fields))
+        unfolding tableProblem
+        problem-is =
+            let w : take (t .fields .n) d ≡ gather (orderOf (t .fields)) (tab (t .fields .n) (demandOf (t .fields))) =
+            rw (q, demands-are) (gathered-tasks order-listed (demandOf (t .fields)) ∙ ap (λ l. gather l (tab (t .fields .n) (demandOf (t .fields)))) front) in
+            λ i. record { capacity = hyperperiod-is i; cores = t .fields .m; demands = w i; affinity = bytes-are u i }
 
-        found-is : found ≡ foundOf a
-        unfolding a
-        found-is = w ∙ ap (λ P. foundOf (answer P limit)) problem-is
+        -- and what it finds, back in table order, is the plan
+        module _ (limit : ℕ)
+            {found : Found} (w : found ≡ foundOf (answer (problemOf (t .hyperperiod) (t .fields .m) (take (t .fields .n) d) (take (t .fields .n) b)) limit)) where
+          a : WalkAnswer
+          a = answer (inPlanningOrder (tableProblem (t .fields)) (orderOf (t .fields))) limit
 
-        pub plan-is : {p : List ℕ} {v : Verdict} → p ≡ row 0 (t .fields .n) (entry (scatter (take (t .fields .n) o) (found .placement)))
-            → v ≡ verdictOf (found .spent) (found .rejected)
-            → _≡_ {A = Allocation} (record { verdict = v; placement = p; rejected = found .rejected; steps = found .steps }) (planFor (t .fields) limit)
-        unfolding planFor allocationOf tableAnswer foundOf a
-        plan-is {p} {v} x y =
-            let s : p ≡ row 0 (t .fields .n) (entry (scatter (orderOf (t .fields)) (a .placement))) =
-            put-back (a .placement) (ap (λ g. g .placement) found-is) x in
-            let u : v ≡ verdictOf (a .spent) (a .rejected) = y ∙ ap (λ g. verdictOf (g .spent) (g .rejected)) found-is in
-            λ i. record { verdict = u i; placement = s i; rejected = found-is i .rejected; steps = found-is i .steps }
+          found-is : found ≡ foundOf a
+          unfolding a
+          found-is = w ∙ ap (λ P. foundOf (answer P limit)) problem-is
+
+          pub plan-is : {p : List ℕ} {v : Verdict} → p ≡ row 0 (t .fields .n) (entry (scatter (take (t .fields .n) o) (found .placement)))
+              → v ≡ verdictOf (found .spent) (found .rejected)
+              → _≡_ {A = Allocation} (record { verdict = v; placement = p; rejected = found .rejected; steps = found .steps }) (planFor (t .fields) limit)
+          unfolding planFor allocationOf tableAnswer foundOf a
+          plan-is {p} {v} x y =
+              let s : p ≡ row 0 (t .fields .n) (entry (scatter (orderOf (t .fields)) (a .placement))) =
+              put-back (a .placement) (ap (λ g. g .placement) found-is) x in
+              let u : v ≡ verdictOf (a .spent) (a .rejected) = y ∙ ap (λ g. verdictOf (g .spent) (g .rejected)) found-is in
+              λ i. record { verdict = u i; placement = s i; rejected = found-is i .rejected; steps = found-is i .steps }
 
 -- ---- the verdict
 
@@ -128,16 +138,16 @@ verdict-short b (suc x) e q = rw e
 
 -- ---- from the reader's answer to the plan
 
-module _ (s : List ℕ) (charge : ℕ) {g : Reading} (e : g ≡ readingOf s charge) where
-  pub plan-refused : (limit : ℕ) {c : Cause} {r : Allocation} → r ≡ refusedPlan c → g .outcome ≡ outcome.Refused c → r ≡ planOf s charge limit
+module _ (s : List ℕ) (charge : ℕ) (affinity : List ℕ) {g : Reading} (e : g ≡ readingOf s charge affinity) where
+  pub plan-refused : (limit : ℕ) {c : Cause} {r : Allocation} → r ≡ refusedPlan c → g .outcome ≡ outcome.Refused c → r ≡ planOf s charge affinity limit
   unfolding planOf planBy
-  plan-refused limit w q = rw (← read-outcome s charge e, q) w
+  plan-refused limit w q = rw (← read-outcome s charge affinity e, q) w
 
   -- the fields of an accepted reading
-  pub fields-are : g .outcome ≡ outcome.Accepted → g .tasks .fields ≡ fieldsOf s charge
+  pub fields-are : g .outcome ≡ outcome.Accepted → g .tasks .fields ≡ fieldsOf s charge affinity
   unfolding taskSetOf
-  fields-are q = ap (λ x. x .fields) (read-tasks s charge e q)
+  fields-are q = ap (λ x. x .fields) (read-tasks s charge affinity e q)
 
-  pub plan-accepted : (limit : ℕ) {r : Allocation} → g .outcome ≡ outcome.Accepted → r ≡ planFor (g .tasks .fields) limit → r ≡ planOf s charge limit
+  pub plan-accepted : (limit : ℕ) {r : Allocation} → g .outcome ≡ outcome.Accepted → r ≡ planFor (g .tasks .fields) limit → r ≡ planOf s charge affinity limit
   unfolding planOf planBy
-  plan-accepted limit q w = rw (← read-outcome s charge e, q) (w ∙ ap (λ f. planFor f limit) (fields-are q))
+  plan-accepted limit q w = rw (← read-outcome s charge affinity e, q) (w ∙ ap (λ f. planFor f limit) (fields-are q))

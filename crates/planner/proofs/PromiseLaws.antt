@@ -16,6 +16,7 @@ use Rattle.refusal.specs.Conditions.{Decides}
 use Rattle.refusal.proofs.ConditionLaws.{decides, accepts}
 use Rattle.refusal.specs.declared.Outcome.{Outcome}
 use Rattle.refusal.specs.declared.Outcome.the-variants as outcome
+use Rattle.taskset.specs.Fields.{affinityAt}
 use Rattle.taskset.specs.Demands.{demandOf}
 use Rattle.taskset.specs.Limits.{Within}
 use Rattle.taskset.specs.Reading.{taskSetOf}
@@ -31,8 +32,7 @@ use Rattle.allocation.specs.Placement.{Feasible, Full, rejected}
 use Rattle.allocation.specs.Walk.{WalkAnswer, LastLeaf, NoLeaf}
 use Rattle.allocation.specs.TableOrder.{inPlanningOrder, tableAnswer}
 use Rattle.allocation.specs.Guarantee.{Guarantee}
-use Rattle.allocation.proofs.Reorder.{gathered-positive}
-use Rattle.allocation.proofs.EmptyCores.{AlikeCores}
+use Rattle.allocation.proofs.Reorder.{gathered-positive, twins-gather, twins-back}
 use Rattle.allocation.proofs.EntryRule.{entry-rule}
 use Rattle.allocation.proofs.Guarantee.{guaranteed}
 use Rattle.planner.specs.Problem.{tableProblem, orderOf}
@@ -104,13 +104,20 @@ module _ (f : Fields) (w : Within f) where
   positive : (k : ℕ) → k < length (tableProblem f .demands) → 1 ≤ getD (tableProblem f .demands) k 0
   positive k h = exact-demands .range k (rw demands-long at h) .0
 
-  walk-rule : WalkRule f
-  walk-rule = entry-rule (inPlanningOrder (tableProblem f) (orderOf f))
-      (gathered-positive (tableProblem f) (orderOf f) order-permutation positive)
-
-  pub alike : AlikeCores (tableProblem f)
+  -- a task's core byte
+  pub byte-at : (k : ℕ) → k < f .n → entry (tableProblem f .affinity) k ≡ affinityAt f k
   unfolding tableProblem
-  alike k c d = refl
+  byte-at k h = getD-tab 0 (f .n) (affinityAt f) k h
+
+  walk-rule : WalkRule f
+  walk-rule = record {
+    enters = entry-rule (inPlanningOrder (tableProblem f) (orderOf f))
+        (gathered-positive (tableProblem f) (orderOf f) order-permutation positive);
+    twins = λ c d. (
+      λ t k h. rw (byte-at k h) at (twins-back (tableProblem f) (orderOf f) order-permutation c d t k (rw demands-long h)),
+      λ t. twins-gather (tableProblem f) (orderOf f) order-permutation c d (λ k h. rw (byte-at k (rw demands-long at h)) (t k (rw demands-long at h))),
+    );
+  }
 
   -- a feasible placement as a row of sixteen
   module _ {p : List ℕ} (g : Feasible (tableProblem f) p) where
@@ -123,6 +130,8 @@ module _ (f : Fields) (w : Within f) where
       exact = exact-demands;
       loads = λ core h l. rw row-choices (g .fits core h l);
       feasible = rw row-choices g;
+      permitted = λ k h. rw (getD-row 0 (f .n) (entry p) k h few) (λ i. rw (byte-at k h) at (g .permitted k (omega (arith, g .whole, demands-long)) i));
+      bytes = w .affinities;
       beyond = λ k h. row-beyond 0 (f .n) (entry p) k h;
       rejects = rw row-choices;
     }
@@ -133,7 +142,7 @@ module _ (f : Fields) (w : Within f) where
 
     keeps : Guarantee (tableProblem f) (orderOf f) limit a
     unfolding a
-    keeps = guaranteed (tableProblem f) alike (orderOf f) order-permutation positive limit
+    keeps = guaranteed (tableProblem f) (orderOf f) order-permutation positive limit
 
     choices-are : choicesOf f (planFor f limit .placement) ≡ a .placement
     unfolding planFor allocationOf a
@@ -209,9 +218,9 @@ unfolding planBy refusedPlan verdictOutcome planFor allocationOf
 answer-outcome outcome.Accepted f limit = outcome-planned _ _
 answer-outcome (outcome.Refused c) f limit = refl
 
-pub plan-outcome : (s : List ℕ) (charge limit : ℕ) → verdictOutcome (planOf s charge limit .verdict) ≡ tableOutcome s charge
+pub plan-outcome : (s : List ℕ) (charge : ℕ) (affinity : List ℕ) (limit : ℕ) → verdictOutcome (planOf s charge affinity limit .verdict) ≡ tableOutcome s charge affinity
 unfolding planOf
-plan-outcome s charge limit = answer-outcome (tableOutcome s charge) (fieldsOf s charge) limit
+plan-outcome s charge affinity limit = answer-outcome (tableOutcome s charge affinity) (fieldsOf s charge affinity) limit
 
 -- a refused plan is zeros
 by-refused : (o : Outcome) (f : Fields) (limit : ℕ) → numberIn o ≢ 0 → RefusedPlan (planBy o f limit)
@@ -220,16 +229,16 @@ by-refused outcome.Accepted f limit n = absurd (n refl)
 by-refused (outcome.Refused c) f limit n = record { placement = refl; rejected = refl; steps = refl }
 
 -- what is promised of an answer that equals the definition
-module _ (s : List ℕ) (charge limit : ℕ) {r : Allocation} (e : r ≡ planOf s charge limit) where
-  pub plan-decides : Decides (Valid s charge) (conditions s charge) (verdictOutcome (r .verdict))
-  plan-decides = rw (e, plan-outcome s charge limit) (decides (table-tested s charge))
+module _ (s : List ℕ) (charge : ℕ) (affinity : List ℕ) (limit : ℕ) {r : Allocation} (e : r ≡ planOf s charge affinity limit) where
+  pub plan-decides : Decides (Valid s charge affinity) (conditions s charge affinity) (verdictOutcome (r .verdict))
+  plan-decides = rw (e, plan-outcome s charge affinity limit) (decides (table-tested s charge affinity))
 
-  pub plan-promised : Plans s charge limit r
+  pub plan-promised : Plans s charge affinity limit r
   unfolding planOf planBy
   plan-promised = record {
     promise = λ v.
-        let o : tableOutcome s charge ≡ outcome.Accepted = accepts (decides (table-tested s charge)) .1 v in
-        rw (e, o) (promised (fieldsOf s charge) (v .fields) limit);
-    walks = λ v. walk-rule (fieldsOf s charge) (v .fields);
-    refused = λ n. rw e (by-refused (tableOutcome s charge) (fieldsOf s charge) limit (rw (e, plan-outcome s charge limit) at n));
+        let o : tableOutcome s charge affinity ≡ outcome.Accepted = accepts (decides (table-tested s charge affinity)) .1 v in
+        rw (e, o) (promised (fieldsOf s charge affinity) (v .fields) limit);
+    walks = λ v. walk-rule (fieldsOf s charge affinity) (v .fields);
+    refused = λ n. rw e (by-refused (tableOutcome s charge affinity) (fieldsOf s charge affinity) limit (rw (e, plan-outcome s charge affinity limit) at n));
   }

@@ -45,9 +45,9 @@ unfoldable pub planBy : Outcome → Fields → ℕ → Allocation
 planBy (outcome.Refused cause) f limit = refusedPlan cause
 planBy outcome.Accepted f limit = planFor f limit
 
--- the answer for a table, the charge beside it and a step limit
-unfoldable pub planOf : List ℕ → ℕ → ℕ → Allocation
-planOf s charge limit = planBy (tableOutcome s charge) (fieldsOf s charge) limit
+-- the answer for a table, the charge and the core bytes beside it, and a step limit
+unfoldable pub planOf : List ℕ → ℕ → List ℕ → ℕ → Allocation
+planOf s charge affinity limit = planBy (tableOutcome s charge affinity) (fieldsOf s charge affinity) limit
 
 -- what a verdict says of the call: through it a verdict has the paper's number and place
 unfoldable pub verdictOutcome : Verdict → Outcome

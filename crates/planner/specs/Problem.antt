@@ -3,15 +3,16 @@ use Prim.Native.Nat.{ℕ}
 use mathlib.Core.List.{List}
 use Rattle.numbers.specs.Rows.{tab}
 use Rattle.numbers.specs.Sorting.{sorted}
+use Rattle.taskset.specs.Fields.{affinityAt}
 use Rattle.taskset.specs.Demands.{hyperperiodOf, demandOf}
 use Rattle.taskset.specs.Reading.{taskSetOf}
 use Rattle.taskset.specs.declared.Fields.{Fields}
 use Rattle.planning.specs.Order.{precedes}
 use Rattle.allocation.specs.Placement.{Problem, problemOf}
 
--- the tasks' demands, on cores that each hold one hyperperiod
+-- the tasks' demands and core bytes, on cores that each hold one hyperperiod
 unfoldable pub tableProblem : Fields → Problem
-tableProblem f = problemOf (hyperperiodOf f) (f .m) (tab (f .n) (demandOf f))
+tableProblem f = problemOf (hyperperiodOf f) (f .m) (tab (f .n) (demandOf f)) (tab (f .n) (affinityAt f))
 
 -- the tasks in planning order
 unfoldable pub orderOf : Fields → List ℕ

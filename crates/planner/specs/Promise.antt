@@ -1,6 +1,7 @@
 -- Demand 2, sentence by sentence, of the plan for fields within the limits, in the table's terms; and what a refused plan is.
 use Prim.Native.Nat.{ℕ, _+_, _*_, _≤_, _<_}
 use mathlib.Core.Path.{_≡_}
+use mathlib.Core.Bool.{true}
 use mathlib.Core.List.{List}
 use mathlib.Core.Logic.{_⊎_, _↔_, _≢_}
 use lib.ListN.{length, take, replicate}
@@ -9,7 +10,8 @@ use Rattle.numbers.specs.Reorder.{scatter}
 use Rattle.numbers.specs.Rows.{entry}
 use Rattle.numbers.specs.Sorting.{Permutation}
 use Rattle.refusal.specs.Causes.{numberIn}
-use Rattle.taskset.specs.Fields.{periodAt, budgetAt}
+use Rattle.affinity.specs.Permitted.{permitted, CoreByte}
+use Rattle.taskset.specs.Fields.{periodAt, budgetAt, affinityAt}
 use Rattle.taskset.specs.Demands.{hyperperiodOf}
 use Rattle.taskset.specs.declared.Fields.{Fields}
 use Rattle.planning.specs.Order.{InOrder}
@@ -17,7 +19,7 @@ use Rattle.stored.specs.Form.{fieldsOf}
 use Rattle.stored.specs.Limits.{Valid}
 use Rattle.allocation.specs.Placement.{Feasible, Full, load, rejected}
 use Rattle.allocation.specs.Walk.{Step, trace, LastLeaf, NoLeaf}
-use Rattle.allocation.specs.EntryRule.{EntryRule}
+use Rattle.allocation.specs.EntryRule.{Twins, EntryRule}
 use Rattle.allocation.specs.TableOrder.{inPlanningOrder, BestPlan}
 use Rattle.planner.specs.Problem.{tableProblem, orderOf}
 use Rattle.planner.specs.Plan.{verdictOutcome}
@@ -47,6 +49,10 @@ pub record Safe (f : Fields) (row : List ℕ) (out : ℕ) : Type 0 where
   pub loads : (core : ℕ) → 1 ≤ core → core ≤ f .m → load (tableProblem f) core (choicesOf f row) ≤ hyperperiodOf f
   -- and each task has a core of the table, or is left out; entries beyond n are 0.
   pub feasible : Feasible (tableProblem f) (choicesOf f row)
+  -- No task is on a core that its core byte does not permit;
+  pub permitted : (k : ℕ) → k < f .n → 1 ≤ entry row k → permitted (affinityAt f k) (entry row k) ≡ true
+  -- a core byte is 1 if it permits core 1, and 2, 4 and 8 more for cores 2, 3 and 4: it permits a core of the table, and none above.
+  pub bytes : (k : ℕ) → k < f .n → CoreByte (f .m) (affinityAt f k)
   pub beyond : (k : ℕ) → f .n ≤ k → entry row k ≡ 0
   -- The rejected demand is that of the placement.
   pub rejects : out ≡ rejected (tableProblem f) (choicesOf f row)
@@ -75,10 +81,13 @@ pub record Promise (f : Fields) (limit : ℕ) (r : Allocation) : Type 0 where
   pub limited : r .verdict ≡ Spent → r .steps ≡ limit
   pub complete : r .verdict ≢ Spent → r .steps ≡ length (walkOf f)
 
--- The walk enters a choice exactly if the core's load stays at most H, what is left out may still improve on the stored placement,
--- and no lower-numbered core is empty if the core is.
-abbrev pub WalkRule : Fields → Type 0
-WalkRule f = EntryRule (inPlanningOrder (tableProblem f) (orderOf f))
+pub record WalkRule (f : Fields) : Type 0 where
+  -- The walk enters a choice exactly if the task permits the core, whose load stays at most H, what is left out may still improve on the
+  -- stored placement, and no lower-numbered twin is empty if the core is.
+  pub enters : EntryRule (inPlanningOrder (tableProblem f) (orderOf f))
+  -- Twins are two cores of which each task of the table permits both or neither.
+  pub twins : (c d : ℕ) → Twins (inPlanningOrder (tableProblem f) (orderOf f)) c d
+      ↔ ((k : ℕ) → k < f .n → permitted (affinityAt f k) c ≡ permitted (affinityAt f k) d)
 
 -- A refused plan is all zeros beside its cause.
 pub record RefusedPlan (r : Allocation) : Type 0 where
@@ -86,9 +95,9 @@ pub record RefusedPlan (r : Allocation) : Type 0 where
   pub rejected : r .rejected ≡ 0
   pub steps : r .steps ≡ 0
 
--- What is promised of the answer for a table and a charge: a valid table's plan keeps demand 2, its walk enters choices by the paper's rule,
+-- What is promised of the answer for a table, a charge and core bytes: a valid table's plan keeps demand 2, its walk enters choices by the paper's rule,
 -- and a refused plan is zeros.
-pub record Plans (table : List ℕ) (charge limit : ℕ) (r : Allocation) : Type 0 where
-  pub promise : Valid table charge → Promise (fieldsOf table charge) limit r
-  pub walks : Valid table charge → WalkRule (fieldsOf table charge)
+pub record Plans (table : List ℕ) (charge : ℕ) (affinity : List ℕ) (limit : ℕ) (r : Allocation) : Type 0 where
+  pub promise : Valid table charge affinity → Promise (fieldsOf table charge affinity) limit r
+  pub walks : Valid table charge affinity → WalkRule (fieldsOf table charge affinity)
   pub refused : numberIn (verdictOutcome (r .verdict)) ≢ 0 → RefusedPlan r

@@ -75,7 +75,9 @@ pub fn plan_tasks(t: TaskSet, limit: u32) -> Allocation
     let order = planning::planning_order(t);
     let demands = t.demands;
     let ordered = planning::in_planning_order(demands, order, n);
-    let found = search::search(ordered, n, t.fields.m, t.hyperperiod, limit);
+    let bytes = t.fields.affinity;
+    let permitted = planning::bytes_in_planning_order(bytes, order, n);
+    let found = search::search(ordered, permitted, n, t.fields.m, t.hyperperiod, limit);
     let choices = found.placement;
     let placement = planning::in_table_order(choices, order, n);
     let verdict = verdict_of(found.spent, found.rejected);
@@ -87,13 +89,13 @@ pub fn plan_tasks(t: TaskSet, limit: u32) -> Allocation
     }
 }
 
-// Plans a stored table, on a board with this charge, in at most `limit` steps.
-pub fn plan(table: &[u8], charge: u32, limit: u32) -> Allocation
-    ensures answer { λ r. ⌜ r ≡ planOf (now (table .entry)) charge limit ⌝ }
-    ensures decides { λ r. ⌜ Decides (Valid (now (table .entry)) charge) (conditions (now (table .entry)) charge) (verdictOutcome (r .verdict)) ⌝ }
-    ensures plans { λ r. ⌜ Plans (now (table .entry)) charge limit r ⌝ }
+// Plans a stored table, on a board with this charge, each task on the cores that its core byte permits, in at most `limit` steps.
+pub fn plan(table: &[u8], charge: u32, affinity: &[u8], limit: u32) -> Allocation
+    ensures answer { λ r. ⌜ r ≡ planOf (now (table .entry)) charge (now (affinity .entry)) limit ⌝ }
+    ensures decides { λ r. ⌜ Decides (Valid (now (table .entry)) charge (now (affinity .entry))) (conditions (now (table .entry)) charge (now (affinity .entry))) (verdictOutcome (r .verdict)) ⌝ }
+    ensures plans { λ r. ⌜ Plans (now (table .entry)) charge (now (affinity .entry)) limit r ⌝ }
 {
-    let reading = stored::read_charged(table, charge);
+    let reading = stored::read_beside(table, charge, affinity);
     let outcome = reading.outcome;
     match outcome {
         Outcome::Refused(cause) => refused(cause),

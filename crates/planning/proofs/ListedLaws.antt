@@ -39,6 +39,11 @@ module _ {order : List ℕ} {n : ℕ} (l : Listed order n) where
       gathered-front (row 0 n f)
       ∙ gather-cong n tasks (l .each) (row 0 n f) (tab n f) (λ t h. getD-row 0 n f t h (l .few) ∙ sym (getD-tab 0 n f t h))
 
+  -- and of any row that of its first entries
+  pub gathered-entries : (values : List ℕ) → take n (row 0 n (entry (gather tasks values))) ≡ gather tasks (tab n (entry values))
+  gathered-entries values =
+      gathered-front values ∙ gather-cong n tasks (l .each) values (tab n (entry values)) (λ t h. sym (getD-tab 0 n (entry values) t h))
+
   -- what holds of each task's value and of 0 holds of each entry
   pub gathered-each : (P : ℕ → Type 0) (values : List ℕ) → P 0 → ((t : ℕ) → t < n → P (entry values t)) → (k : ℕ) → P (entry (row 0 n (entry (gather tasks values))) k)
   gathered-each P values o h =

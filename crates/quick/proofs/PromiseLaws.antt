@@ -25,7 +25,7 @@ use Rattle.allocation.proofs.Quick.{quick-guaranteed}
 use Rattle.planner.specs.Problem.{tableProblem, orderOf}
 use Rattle.planner.specs.Plan.{verdictOf, allocationOf, planFor, refusedPlan, planBy, planOf}
 use Rattle.planner.specs.Promise.{choicesOf, Safe}
-use Rattle.planner.proofs.PromiseLaws.{demands-long, stated-order, order-permutation, alike, row-choices, row-safe, promised}
+use Rattle.planner.proofs.PromiseLaws.{demands-long, stated-order, order-permutation, row-choices, row-safe, promised}
 use Rattle.planner.specs.declared.Verdict.the-variants.{All, Spent}
 use Rattle.quick.specs.Quick.{quickPlacement, quickFor, refusedQuick, quickBy, quickOf}
 use Rattle.quick.specs.Promise.{Lowest, Agrees, NoLess, Descent, RefusedQuick}
@@ -36,7 +36,7 @@ use Rattle.quick.specs.declared.QuickPlan.{QuickPlan}
 module _ (f : Fields) (w : Within f) where
   keeps : QuickGuarantee (tableProblem f) (orderOf f) (quickPlacement f)
   unfolding quickPlacement
-  keeps = quick-guaranteed (tableProblem f) (alike f w) (orderOf f) (order-permutation f w)
+  keeps = quick-guaranteed (tableProblem f) (orderOf f) (order-permutation f w)
 
   choices-are : choicesOf f (quickFor f .placement) ≡ quickPlacement f
   unfolding quickFor
@@ -86,57 +86,57 @@ quick-outcome outcome.Accepted f = refl
 quick-outcome (outcome.Refused c) f = refl
 
 -- what is promised whether or not the table is valid
-pub record Answered (s : List ℕ) (charge : ℕ) (r : QuickPlan) : Type 0 where
-  pub exact : Agrees s charge r
-  pub no-less : NoLess s charge r
-  pub descent : Descent s charge r
+pub record Answered (s : List ℕ) (charge : ℕ) (affinity : List ℕ) (r : QuickPlan) : Type 0 where
+  pub exact : Agrees s charge affinity r
+  pub no-less : NoLess s charge affinity r
+  pub descent : Descent s charge affinity r
   pub refused : numberIn (r .outcome) ≢ 0 → RefusedQuick r
 
-answered : (s : List ℕ) (charge : ℕ) (o : Outcome) → tableOutcome s charge ≡ o → Answered s charge (quickBy o (fieldsOf s charge))
+answered : (s : List ℕ) (charge : ℕ) (affinity : List ℕ) (o : Outcome) → tableOutcome s charge affinity ≡ o → Answered s charge affinity (quickBy o (fieldsOf s charge affinity))
 unfolding quickBy refusedQuick planOf planBy refusedPlan fieldsOf
-answered s charge (outcome.Refused c) e = record {
+answered s charge affinity (outcome.Refused c) e = record {
   exact = λ z. absurd (omega (arith, number-range c, z));
   no-less = λ limit h. rw e zero-le;
   descent = record { placement = rw e; rejected = rw e; later = λ limit h. rw e zero-le };
   refused = λ n. record { placement = refl; rejected = refl };
 }
-answered s charge outcome.Accepted e =
-    let w : Within (fieldsOf s charge) = accepts (decides (table-tested s charge)) .0 e .fields in
+answered s charge affinity outcome.Accepted e =
+    let w : Within (fieldsOf s charge affinity) = accepts (decides (table-tested s charge affinity)) .0 e .fields in
     record {
-      exact = λ z q limit h. rw e (exact-plan (fieldsOf s charge) w q limit h);
-      no-less = λ limit h. rw e (plan-no-less (fieldsOf s charge) w limit (rw e at h));
+      exact = λ z q limit h. rw e (exact-plan (fieldsOf s charge affinity) w q limit h);
+      no-less = λ limit h. rw e (plan-no-less (fieldsOf s charge affinity) w limit (rw e at h));
       descent = record {
-        placement = rw e (first-plan (fieldsOf s charge) w);
-        rejected = rw e (first-rejected (fieldsOf s charge) w);
-        later = λ limit h. rw e (later-plans (fieldsOf s charge) w limit h);
+        placement = rw e (first-plan (fieldsOf s charge affinity) w);
+        rejected = rw e (first-rejected (fieldsOf s charge affinity) w);
+        later = λ limit h. rw e (later-plans (fieldsOf s charge affinity) w limit h);
       };
-      refused = λ n. absurd (n (ap numberIn (quick-outcome outcome.Accepted (fieldsOf s charge))));
+      refused = λ n. absurd (n (ap numberIn (quick-outcome outcome.Accepted (fieldsOf s charge affinity))));
     }
 
 -- every clause of `quick_plan`, of an answer that equals the definition
-module _ (s : List ℕ) (charge : ℕ) {r : QuickPlan} (e : r ≡ quickOf s charge) where
-  pub quick-answered : Answered s charge r
+module _ (s : List ℕ) (charge : ℕ) (affinity : List ℕ) {r : QuickPlan} (e : r ≡ quickOf s charge affinity) where
+  pub quick-answered : Answered s charge affinity r
   unfolding quickOf
-  quick-answered = rw e (answered s charge (tableOutcome s charge) refl)
+  quick-answered = rw e (answered s charge affinity (tableOutcome s charge affinity) refl)
 
-  for-valid : (Q : QuickPlan → Type 0) → (Within (fieldsOf s charge) → Q (quickFor (fieldsOf s charge))) → Valid s charge → Q r
+  for-valid : (Q : QuickPlan → Type 0) → (Within (fieldsOf s charge affinity) → Q (quickFor (fieldsOf s charge affinity))) → Valid s charge affinity → Q r
   unfolding quickOf quickBy
-  for-valid Q h v = rw (e, accepts (decides (table-tested s charge)) .1 v) (h (v .fields))
+  for-valid Q h v = rw (e, accepts (decides (table-tested s charge affinity)) .1 v) (h (v .fields))
 
-  pub quick-decides : Decides (Valid s charge) (conditions s charge) (r .outcome)
+  pub quick-decides : Decides (Valid s charge affinity) (conditions s charge affinity) (r .outcome)
   unfolding quickOf
-  quick-decides = rw (e, quick-outcome (tableOutcome s charge) (fieldsOf s charge)) (decides (table-tested s charge))
+  quick-decides = rw (e, quick-outcome (tableOutcome s charge affinity) (fieldsOf s charge affinity)) (decides (table-tested s charge affinity))
 
-  pub quick-safe : Valid s charge → Safe (fieldsOf s charge) (r .placement) (r .rejected)
-  quick-safe = for-valid (λ x. Safe (fieldsOf s charge) (x .placement) (x .rejected)) (safe (fieldsOf s charge))
+  pub quick-safe : Valid s charge affinity → Safe (fieldsOf s charge affinity) (r .placement) (r .rejected)
+  quick-safe = for-valid (λ x. Safe (fieldsOf s charge affinity) (x .placement) (x .rejected)) (safe (fieldsOf s charge affinity))
 
-  pub quick-lowest : Valid s charge → Lowest (fieldsOf s charge) r
-  quick-lowest = for-valid (Lowest (fieldsOf s charge)) (lowest (fieldsOf s charge))
+  pub quick-lowest : Valid s charge affinity → Lowest (fieldsOf s charge affinity) r
+  quick-lowest = for-valid (Lowest (fieldsOf s charge affinity)) (lowest (fieldsOf s charge affinity))
 
   -- one within the other, as the contract's clauses stand
-  pub quick-promised : (r ≡ quickOf s charge) × (Decides (Valid s charge) (conditions s charge) (r .outcome)
-      × ((Valid s charge → Safe (fieldsOf s charge) (r .placement) (r .rejected)) × ((Valid s charge → Lowest (fieldsOf s charge) r)
-      × (Agrees s charge r × (NoLess s charge r × (Descent s charge r × (numberIn (r .outcome) ≢ 0 → RefusedQuick r)))))))
+  pub quick-promised : (r ≡ quickOf s charge affinity) × (Decides (Valid s charge affinity) (conditions s charge affinity) (r .outcome)
+      × ((Valid s charge affinity → Safe (fieldsOf s charge affinity) (r .placement) (r .rejected)) × ((Valid s charge affinity → Lowest (fieldsOf s charge affinity) r)
+      × (Agrees s charge affinity r × (NoLess s charge affinity r × (Descent s charge affinity r × (numberIn (r .outcome) ≢ 0 → RefusedQuick r)))))))
   quick-promised = (
     e,
     (quick-decides, (quick-safe, (quick-lowest, (quick-answered .exact, (quick-answered .no-less, (quick-answered .descent, quick-answered .refused)))))),

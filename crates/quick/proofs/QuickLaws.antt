@@ -29,12 +29,13 @@ use Rattle.quick.specs.declared.QuickPlan.{QuickPlan}
 -- first fit in planning order, back in table order, is the quick plan
 module _ {t : TaskSet} (c : Checked t) {o : List ℕ} (e : o ≡ planningOrder t)
     {d : List ℕ} (q : d ≡ row 0 (t .fields .n) (entry (gather (take (t .fields .n) o) (t .demands))))
-    {fitted : Fitted} (w : fitted ≡ fittedOf (problemOf (t .hyperperiod) (t .fields .m) (take (t .fields .n) d))) where
+    {b : List ℕ} (u : b ≡ row 0 (t .fields .n) (entry (gather (take (t .fields .n) o) (t .fields .affinity))))
+    {fitted : Fitted} (w : fitted ≡ fittedOf (problemOf (t .hyperperiod) (t .fields .m) (take (t .fields .n) d) (take (t .fields .n) b))) where
   abbrev P : Problem
   P = inPlanningOrder (tableProblem (t .fields)) (orderOf (t .fields))
 
   fitted-is : fitted ≡ fittedOf P
-  fitted-is = w ∙ ap fittedOf (problem-is c e q)
+  fitted-is = w ∙ ap fittedOf (problem-is c e q u)
 
   pub quick-is : {p : List ℕ} → p ≡ row 0 (t .fields .n) (entry (scatter (take (t .fields .n) o) (fitted .placement)))
       → _≡_ {A = QuickPlan} (record { outcome = outcome.Accepted; placement = p; rejected = fitted .rejected }) (quickFor (t .fields))
@@ -49,11 +50,11 @@ module _ {t : TaskSet} (c : Checked t) {o : List ℕ} (e : o ≡ planningOrder t
 
 -- ---- from the reader's answer to the plan
 
-module _ (s : List ℕ) (charge : ℕ) {g : Reading} (e : g ≡ readingOf s charge) where
-  pub quick-refused : {c : Cause} {r : QuickPlan} → r ≡ refusedQuick c → g .outcome ≡ outcome.Refused c → r ≡ quickOf s charge
+module _ (s : List ℕ) (charge : ℕ) (affinity : List ℕ) {g : Reading} (e : g ≡ readingOf s charge affinity) where
+  pub quick-refused : {c : Cause} {r : QuickPlan} → r ≡ refusedQuick c → g .outcome ≡ outcome.Refused c → r ≡ quickOf s charge affinity
   unfolding quickOf quickBy
-  quick-refused w q = rw (← read-outcome s charge e, q) w
+  quick-refused w q = rw (← read-outcome s charge affinity e, q) w
 
-  pub quick-accepted : {r : QuickPlan} → g .outcome ≡ outcome.Accepted → r ≡ quickFor (g .tasks .fields) → r ≡ quickOf s charge
+  pub quick-accepted : {r : QuickPlan} → g .outcome ≡ outcome.Accepted → r ≡ quickFor (g .tasks .fields) → r ≡ quickOf s charge affinity
   unfolding quickOf quickBy
-  quick-accepted q w = rw (← read-outcome s charge e, q) (w ∙ ap quickFor (fields-are s charge e q))
+  quick-accepted q w = rw (← read-outcome s charge affinity e, q) (w ∙ ap quickFor (fields-are s charge affinity e q))

@@ -26,21 +26,21 @@ pub record Lowest (f : Fields) (r : QuickPlan) : Type 0 where
   pub ordered : StatedOrder f
 
 -- If it is accepted and leaves nothing out, the exact planner with any limit of at least n gives the same placement in n steps.
-abbrev pub Agrees : List ℕ → ℕ → QuickPlan → Type 0
-Agrees table charge r = numberIn (r .outcome) ≡ 0 → r .rejected ≡ 0 → (limit : ℕ) → taskCount table ≤ limit
-    → planOf table charge limit ≡ record { verdict = All; placement = r .placement; rejected = 0; steps = taskCount table }
+abbrev pub Agrees : List ℕ → ℕ → List ℕ → QuickPlan → Type 0
+Agrees table charge affinity r = numberIn (r .outcome) ≡ 0 → r .rejected ≡ 0 → (limit : ℕ) → taskCount table ≤ limit
+    → planOf table charge affinity limit ≡ record { verdict = All; placement = r .placement; rejected = 0; steps = taskCount table }
 
 -- Its left-out weight is never below the exact planner's, unless that one was spent.
-abbrev pub NoLess : List ℕ → ℕ → QuickPlan → Type 0
-NoLess table charge r = (limit : ℕ) → planOf table charge limit .verdict ≢ Spent → planOf table charge limit .rejected ≤ r .rejected
+abbrev pub NoLess : List ℕ → ℕ → List ℕ → QuickPlan → Type 0
+NoLess table charge affinity r = (limit : ℕ) → planOf table charge affinity limit .verdict ≢ Spent → planOf table charge affinity limit .rejected ≤ r .rejected
 
 -- It is the walk's first descent.
-pub record Descent (table : List ℕ) (charge : ℕ) (r : QuickPlan) : Type 0 where
+pub record Descent (table : List ℕ) (charge : ℕ) (affinity : List ℕ) (r : QuickPlan) : Type 0 where
   -- With a limit of n the exact planner returns this placement, spent or not,
-  pub placement : planOf table charge (taskCount table) .placement ≡ r .placement
-  pub rejected : planOf table charge (taskCount table) .rejected ≡ r .rejected
+  pub placement : planOf table charge affinity (taskCount table) .placement ≡ r .placement
+  pub rejected : planOf table charge affinity (taskCount table) .rejected ≡ r .rejected
   -- and with a larger one none that leaves out more.
-  pub later : (limit : ℕ) → taskCount table ≤ limit → planOf table charge limit .rejected ≤ r .rejected
+  pub later : (limit : ℕ) → taskCount table ≤ limit → planOf table charge affinity limit .rejected ≤ r .rejected
 
 -- A refused quick plan is all zeros beside its cause.
 pub record RefusedQuick (r : QuickPlan) : Type 0 where

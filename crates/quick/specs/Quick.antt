@@ -14,7 +14,7 @@ use Rattle.allocation.specs.FirstFit.{tableFit}
 use Rattle.planner.specs.Problem.{tableProblem, orderOf}
 use Rattle.quick.specs.declared.QuickPlan.{QuickPlan}
 
--- the tasks in planning order, each on the lowest core where it fits, or left out; in table order
+-- the tasks in planning order, each on the lowest permitted core where it fits, or left out; in table order
 unfoldable pub quickPlacement : Fields → List ℕ
 quickPlacement f = tableFit (tableProblem f) (orderOf f)
 
@@ -35,6 +35,6 @@ unfoldable pub quickBy : Outcome → Fields → QuickPlan
 quickBy (Refused cause) f = refusedQuick cause
 quickBy Accepted f = quickFor f
 
--- the answer for a table and the charge beside it
-unfoldable pub quickOf : List ℕ → ℕ → QuickPlan
-quickOf s charge = quickBy (tableOutcome s charge) (fieldsOf s charge)
+-- the answer for a table, the charge and the core bytes beside it
+unfoldable pub quickOf : List ℕ → ℕ → List ℕ → QuickPlan
+quickOf s charge affinity = quickBy (tableOutcome s charge affinity) (fieldsOf s charge affinity)

@@ -40,7 +40,9 @@ pub fn quick_tasks(t: TaskSet) -> QuickPlan
     let order = planning::planning_order(t);
     let demands = t.demands;
     let ordered = planning::in_planning_order(demands, order, n);
-    let fitted = firstfit::first_fit(ordered, n, t.fields.m, t.hyperperiod);
+    let bytes = t.fields.affinity;
+    let permitted = planning::bytes_in_planning_order(bytes, order, n);
+    let fitted = firstfit::first_fit(ordered, permitted, n, t.fields.m, t.hyperperiod);
     let choices = fitted.placement;
     let placement = planning::in_table_order(choices, order, n);
     QuickPlan {
@@ -50,18 +52,19 @@ pub fn quick_tasks(t: TaskSet) -> QuickPlan
     }
 }
 
-// The quick plan of a stored table on a board with this charge: each task, in planning order, on the lowest core where it still fits, or left out.
-pub fn quick_plan(table: &[u8], charge: u32) -> QuickPlan
-    ensures answer { λ r. ⌜ r ≡ quickOf (now (table .entry)) charge ⌝ }
-    ensures decides { λ r. ⌜ Decides (Valid (now (table .entry)) charge) (conditions (now (table .entry)) charge) (r .outcome) ⌝ }
-    ensures safe { λ r. ⌜ (Valid (now (table .entry)) charge → Safe (fieldsOf (now (table .entry)) charge) (r .placement) (r .rejected)) ⌝ }
-    ensures lowest { λ r. ⌜ (Valid (now (table .entry)) charge → Lowest (fieldsOf (now (table .entry)) charge) r) ⌝ }
-    ensures exact { λ r. ⌜ Agrees (now (table .entry)) charge r ⌝ }
-    ensures no_less { λ r. ⌜ NoLess (now (table .entry)) charge r ⌝ }
-    ensures descent { λ r. ⌜ Descent (now (table .entry)) charge r ⌝ }
+// The quick plan of a stored table on a board with this charge: each task, in planning order, on the lowest core that its core byte
+// permits and where it still fits, or left out.
+pub fn quick_plan(table: &[u8], charge: u32, affinity: &[u8]) -> QuickPlan
+    ensures answer { λ r. ⌜ r ≡ quickOf (now (table .entry)) charge (now (affinity .entry)) ⌝ }
+    ensures decides { λ r. ⌜ Decides (Valid (now (table .entry)) charge (now (affinity .entry))) (conditions (now (table .entry)) charge (now (affinity .entry))) (r .outcome) ⌝ }
+    ensures safe { λ r. ⌜ (Valid (now (table .entry)) charge (now (affinity .entry)) → Safe (fieldsOf (now (table .entry)) charge (now (affinity .entry))) (r .placement) (r .rejected)) ⌝ }
+    ensures lowest { λ r. ⌜ (Valid (now (table .entry)) charge (now (affinity .entry)) → Lowest (fieldsOf (now (table .entry)) charge (now (affinity .entry))) r) ⌝ }
+    ensures exact { λ r. ⌜ Agrees (now (table .entry)) charge (now (affinity .entry)) r ⌝ }
+    ensures no_less { λ r. ⌜ NoLess (now (table .entry)) charge (now (affinity .entry)) r ⌝ }
+    ensures descent { λ r. ⌜ Descent (now (table .entry)) charge (now (affinity .entry)) r ⌝ }
     ensures refused { λ r. ⌜ (numberIn (r .outcome) ≢ 0 → RefusedQuick r) ⌝ }
 {
-    let reading = stored::read_charged(table, charge);
+    let reading = stored::read_beside(table, charge, affinity);
     let outcome = reading.outcome;
     match outcome {
         Outcome::Refused(cause) => refused(cause),

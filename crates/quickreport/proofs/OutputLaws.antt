@@ -9,7 +9,7 @@ use Rattle.refusal.specs.declared.Outcome.the-variants as outcome
 use Rattle.taskset.specs.Reading.{taskSetOf, acceptedReading, readingBy}
 use Rattle.taskset.specs.declared.Fields.{Fields}
 use Rattle.taskset.specs.declared.TaskSet.{TaskSet}
-use Rattle.stored.specs.Form.{fieldsOf}
+use Rattle.stored.specs.Form.{everyAffinity, fieldsAlone}
 use Rattle.stored.specs.Tests.{tableOutcome, readingOf}
 use Rattle.quick.specs.Quick.{quickFor, quickBy, quickOf}
 use Rattle.quick.specs.declared.QuickPlan.{QuickPlan}
@@ -43,12 +43,12 @@ never-refused f {plan} e q h =
     omega arith
 
 -- the definition, by the outcome of the table's tests
-output-is : (s : List ℕ) → quickOutputOf s ≡ printed (tableOutcome s 0) (quickLines (taskSetOf (fieldsOf s 0)) (quickFor (fieldsOf s 0)))
+output-is : (s : List ℕ) → quickOutputOf s ≡ printed (tableOutcome s 0 (everyAffinity s)) (quickLines (taskSetOf (fieldsAlone s)) (quickFor (fieldsAlone s)))
 unfolding quickOutputOf quickOf quickBy readingOf readingBy acceptedReading
-output-is s = rw (quick-outcome (tableOutcome s 0) (fieldsOf s 0)) (printed-same (tableOutcome s 0) (λ e. rw e))
+output-is s = rw (quick-outcome (tableOutcome s 0 (everyAffinity s)) (fieldsAlone s)) (printed-same (tableOutcome s 0 (everyAffinity s)) (λ e. rw e))
 
 -- ---- from the reader's answer to the output: both clauses of `report`
 
-pub output-both : (s : List ℕ) {x : List ℕ} → x ≡ printed (tableOutcome s 0) (quickLines (taskSetOf (fieldsOf s 0)) (quickFor (fieldsOf s 0)))
+pub output-both : (s : List ℕ) {x : List ℕ} → x ≡ printed (tableOutcome s 0 (everyAffinity s)) (quickLines (taskSetOf (fieldsAlone s)) (quickFor (fieldsAlone s)))
     → (x ≡ quickOutputOf s) × Reported s x
 output-both s e = (e ∙ sym (output-is s), in-terms s _ e)

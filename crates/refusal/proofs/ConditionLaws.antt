@@ -164,15 +164,18 @@ decides {o = o} t = record {
   refused = λ k p h. (given-first (t .reports) h, first-given (t .reports));
 }
 
--- and those of two calls, one after the other, decide both.
-pub join : {A B : Type 0} {cs ds : List Condition} {o p : Outcome} → Tested A cs o → Tested B ds p → Tested (A × B) (cs ++ ds) (o then p)
-join {cs = cs} {ds} a b = record {
-  reports = then-reports cs ds (a .reports) (λ _. b .reports);
+-- and those of two calls, one after the other, decide both; the second may take for granted that no condition of the first holds.
+pub join-after : {A B : Type 0} {cs ds : List Condition} {o p : Outcome} → Tested A cs o → (None cs → Tested B ds p) → Tested (A × B) (cs ++ ds) (o then p)
+join-after {cs = cs} {ds} a b = record {
+  reports = then-reports cs ds (a .reports) (λ n. b n .reports);
   valid = (
-    λ n. let r = none-append cs ds .0 n in (a .valid .0 (r .0), b .valid .0 (r .1)),
-    λ v. none-append cs ds .1 (a .valid .1 (v .0), b .valid .1 (v .1)),
+    λ n. let r = none-append cs ds .0 n in (a .valid .0 (r .0), b (r .0) .valid .0 (r .1)),
+    λ v. let n = a .valid .1 (v .0) in none-append cs ds .1 (n, b n .valid .1 (v .1)),
   );
 }
+
+pub join : {A B : Type 0} {cs ds : List Condition} {o p : Outcome} → Tested A cs o → Tested B ds p → Tested (A × B) (cs ++ ds) (o then p)
+join a b = join-after a (λ _. b)
 
 -- A condition that never is the first to hold need not be named.
 pub unnamed : {Valid : Type 0} {o : Outcome} (cs : List Condition) (c : Condition) (ds : List Condition) → (None cs → Fails c)
@@ -184,6 +187,12 @@ unnamed cs c ds f t = record {
   };
   valid = (λ n. t .valid .0 (none-without c ds cs f .1 n), λ v. none-without c ds cs f .0 (t .valid .1 v));
 }
+
+-- nor need several, one after another
+pub unnamed-all : {Valid : Type 0} {o : Outcome} (cs bs ds : List Condition) → (None cs → None bs)
+    → Tested Valid (cs ++ (bs ++ ds)) o → Tested Valid (cs ++ ds) o
+unnamed-all cs [] ds f t = t
+unnamed-all cs (b ∷ bs) ds f t = unnamed-all cs bs ds (λ n. f n .1) (unnamed cs b (bs ++ ds) (λ n. f n .0) t)
 
 -- what a decision says of an acceptance
 pub accepts : {Valid : Type 0} {cs : List Condition} {o : Outcome} → Decides Valid cs o → (o ≡ Accepted) ↔ Valid

@@ -4,7 +4,7 @@ use mathlib.Core.Path.{_≡_}
 use mathlib.Core.List.{List, [], _∷_}
 use Rattle.refusal.specs.Causes.{numberOf, placeOf}
 use Rattle.refusal.specs.declared.Cause.{Cause}
-use Rattle.refusal.specs.declared.Cause.the-variants.{TooShort, TaskCount, CoreCount, Length, Period, Budget, Hyperperiod, Buffer, Placement, CoreNumber, Overload, Slot, Charge, Cost}
+use Rattle.refusal.specs.declared.Cause.the-variants.{TooShort, TaskCount, CoreCount, Length, Period, Budget, Hyperperiod, Buffer, Placement, CoreNumber, Overload, Slot, Charge, Cost, Affinity, NotPermitted}
 
 -- A row of the table: a cause, its number, its place.
 pub data CauseRow : Type 0 where
@@ -27,6 +27,8 @@ causeTable p =
     ∷ cause (Slot p) 12 p
     ∷ cause Charge 13 0
     ∷ cause (Cost p) 14 p
+    ∷ cause (Affinity p) 15 p
+    ∷ cause (NotPermitted p) 16 p
     ∷ []
 
 -- Number and place of each row are those that the definitions give its cause.

@@ -1,7 +1,7 @@
 -- The paper's number and place of each cause of refusal, and of an outcome.
 use Prim.Native.Nat.{ℕ}
 use Rattle.refusal.specs.declared.Cause.{Cause}
-use Rattle.refusal.specs.declared.Cause.the-variants.{TooShort, TaskCount, CoreCount, Length, Period, Budget, Hyperperiod, Buffer, Placement, CoreNumber, Overload, Slot, Charge, Cost}
+use Rattle.refusal.specs.declared.Cause.the-variants.{TooShort, TaskCount, CoreCount, Length, Period, Budget, Hyperperiod, Buffer, Placement, CoreNumber, Overload, Slot, Charge, Cost, Affinity, NotPermitted}
 use Rattle.refusal.specs.declared.Outcome.{Outcome}
 use Rattle.refusal.specs.declared.Outcome.the-variants.{Accepted, Refused}
 
@@ -21,6 +21,8 @@ numberOf Overload = 11
 numberOf (Slot slot) = 12
 numberOf Charge = 13
 numberOf (Cost task) = 14
+numberOf (Affinity task) = 15
+numberOf (NotPermitted task) = 16
 
 -- its place, the first such task or slot counted from 1; 0 where the paper names none
 abbrev pub placeOf : Cause → ℕ
@@ -38,6 +40,8 @@ placeOf Overload = 0
 placeOf (Slot slot) = slot
 placeOf Charge = 0
 placeOf (Cost task) = task
+placeOf (Affinity task) = task
+placeOf (NotPermitted task) = task
 
 -- number and place of an outcome: 0 and 0 where the call is accepted
 abbrev pub numberIn : Outcome → ℕ

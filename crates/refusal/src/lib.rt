@@ -19,6 +19,8 @@ pub enum Cause {
     Slot(usize),
     Charge,
     Cost(usize),
+    Affinity(usize),
+    NotPermitted(usize),
 }
 
 // What a test, or several made in order, say of a call.
@@ -46,6 +48,8 @@ pub fn number(cause: Cause) -> u32
         Cause::Slot(_) => 12,
         Cause::Charge => 13,
         Cause::Cost(_) => 14,
+        Cause::Affinity(_) => 15,
+        Cause::NotPermitted(_) => 16,
     }
 }
 
@@ -68,6 +72,8 @@ pub fn place(cause: Cause) -> usize
         Cause::Slot(slot) => slot,
         Cause::Charge => 0,
         Cause::Cost(task) => task,
+        Cause::Affinity(task) => task,
+        Cause::NotPermitted(task) => task,
     }
 }
 

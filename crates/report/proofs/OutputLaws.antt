@@ -8,7 +8,7 @@ use Rattle.refusal.specs.declared.Outcome.the-variants as outcome
 use Rattle.taskset.specs.Reading.{taskSetOf, acceptedReading, readingBy}
 use Rattle.taskset.specs.declared.Fields.{Fields}
 use Rattle.taskset.specs.declared.TaskSet.{TaskSet}
-use Rattle.stored.specs.Form.{fieldsOf}
+use Rattle.stored.specs.Form.{everyAffinity, fieldsAlone}
 use Rattle.stored.specs.Tests.{tableOutcome, readingOf}
 use Rattle.planner.specs.Plan.{allocationOf, planFor, planBy, planOf, verdictOutcome}
 use Rattle.planner.proofs.PromiseLaws.{outcome-planned, plan-outcome}
@@ -38,12 +38,12 @@ never-refused f limit {plan} e q h =
     omega arith
 
 -- the definition, by the outcome of the table's tests
-output-is : (s : List ℕ) → outputOf s ≡ printed (tableOutcome s 0) (planLines (taskSetOf (fieldsOf s 0)) (planFor (fieldsOf s 0) 1000000))
+output-is : (s : List ℕ) → outputOf s ≡ printed (tableOutcome s 0 (everyAffinity s)) (planLines (taskSetOf (fieldsAlone s)) (planFor (fieldsAlone s) 1000000))
 unfolding outputOf planOf planBy readingOf readingBy acceptedReading
-output-is s = rw (plan-outcome s 0 1000000) (printed-same (tableOutcome s 0) (λ e. rw e))
+output-is s = rw (plan-outcome s 0 (everyAffinity s) 1000000) (printed-same (tableOutcome s 0 (everyAffinity s)) (λ e. rw e))
 
 -- ---- from the reader's answer to the output: both clauses of `report`
 
-pub output-both : (s : List ℕ) {x : List ℕ} → x ≡ printed (tableOutcome s 0) (planLines (taskSetOf (fieldsOf s 0)) (planFor (fieldsOf s 0) 1000000))
+pub output-both : (s : List ℕ) {x : List ℕ} → x ≡ printed (tableOutcome s 0 (everyAffinity s)) (planLines (taskSetOf (fieldsAlone s)) (planFor (fieldsAlone s) 1000000))
     → (x ≡ outputOf s) × Reported s x
 output-both s e = (e ∙ sym (output-is s), in-terms s _ e)

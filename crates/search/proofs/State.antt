@@ -27,16 +27,17 @@ use Rattle.search.specs.Search.{foundOf}
 use Rattle.search.specs.declared.Found.{Found}
 use Rattle.numbers.proofs.ZeroLaws.{take-zeros, drop-zeros, zero-at}
 
--- what the loops do not change: the demands in a row of sixteen, how many of them are tasks, the cores and the step limit
+-- what the loops do not change: the demands and the core bytes in rows of sixteen, how many of them are tasks, the cores and the step limit
 pub record Job : Type 0 where
   pub row : List ℕ
+  pub affinity : List ℕ
   pub tasks : ℕ
   pub cores : ℕ
   pub capacity : ℕ
   pub limit : ℕ
 
 abbrev pub problem : Job → Problem
-problem J = problemOf (J .capacity) (J .cores) (take (J .tasks) (J .row))
+problem J = problemOf (J .capacity) (J .cores) (take (J .tasks) (J .row)) (take (J .tasks) (J .affinity))
 
 -- the loops' variables
 pub record Locals : Type 0 where
@@ -169,7 +170,7 @@ module _ {J : Job} {L : Locals} (s : Walking J L) where
   pub depth-byte : L .depth % 256 ≡ L .depth
   depth-byte = omega (arith, depth-small)
 
-  path-room : L .depth < length (L .path)
+  pub path-room : L .depth < length (L .path)
   path-room = omega (arith, depth-small, s .chosen .path-row .long)
 
   -- each load, with the demand of the task at hand

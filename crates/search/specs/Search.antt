@@ -1,11 +1,13 @@
 -- What the search is given, and what it returns.
 use Prim.Native.Nat.{ℕ, _≤_, _<_}
 use mathlib.Core.Path.{_≡_}
+use mathlib.Core.Bool.{Bool}
 use mathlib.Core.List.{List}
 use lib.ListN.{getD, take}
 use Rattle.numbers.specs.Rows.{padded}
 use Rattle.allocation.specs.Placement.{problemOf, total, excess}
 use Rattle.allocation.specs.Walk.{WalkAnswer}
+use Rattle.moves.specs.Entry.{twinRows}
 use Rattle.search.specs.declared.Found.{Found}
 
 -- The ranges of the arguments: n demands at the front of a row of sixteen, m cores, and the hyperperiod h.
@@ -17,11 +19,12 @@ pub record Ranges (demands : List ℕ) (n m h : ℕ) : Type 0 where
   pub small : h ≤ 1000000
   pub each : (k : ℕ) → getD demands k 0 ≤ h
 
--- The ranges, with the total demand and the excess computed.
-pub record Prepared (demands : List ℕ) (n m h sum over : ℕ) : Type 0 where
+-- The ranges, with the twins, the total demand and the excess computed.
+pub record Prepared (demands affinity : List ℕ) (twins : List Bool) (n m h sum over : ℕ) : Type 0 where
   pub ranges : Ranges demands n m h
-  pub total-is : sum ≡ total (problemOf h m (take n demands))
-  pub excess-is : over ≡ excess (problemOf h m (take n demands))
+  pub twins-are : twins ≡ twinRows affinity n
+  pub total-is : sum ≡ total (problemOf h m (take n demands) (take n affinity))
+  pub excess-is : over ≡ excess (problemOf h m (take n demands) (take n affinity))
 
 -- the walk's answer as the search returns it
 unfoldable pub foundOf : WalkAnswer → Found

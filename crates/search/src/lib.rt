@@ -16,9 +16,19 @@ pub struct Found {
 // The walk itself. `path` holds the choices made, `loads` the cores' loads, `out` the rejected demand, `best` the stored
 // placement, and `next` how many choices have been tried for the task at `depth`: the cores from 1 upward, then leaving
 // it out.
-fn walk(demands: [u32; 16], n: usize, m: u32, h: u32, total: u32, excess: u32, limit: u32) -> Found
-    requires { ⌜ Prepared demands n m h total excess ⌝ }
-    ensures { λ r. ⌜ r ≡ foundOf (answer (problemOf h m (take n demands)) limit) ⌝ }
+fn walk(
+    demands: [u32; 16],
+    affinity: [u8; 16],
+    twins: [bool; 16],
+    n: usize,
+    m: u32,
+    h: u32,
+    total: u32,
+    excess: u32,
+    limit: u32,
+) -> Found
+    requires { ⌜ Prepared demands affinity twins n m h total excess ⌝ }
+    ensures { λ r. ⌜ r ≡ foundOf (answer (problemOf h m (take n demands) (take n affinity)) limit) ⌝ }
 {
     let deepest = n - 1;
     let mut path = [0u8; 16];
@@ -35,12 +45,18 @@ fn walk(demands: [u32; 16], n: usize, m: u32, h: u32, total: u32, excess: u32, l
         'choices: loop {
             let mut c = 0u32;
             if next < m {
-                if !moves::has_room(loads[next as usize], demands[depth], h) {
+                if !moves::has_room(
+                    affinity[depth],
+                    next,
+                    loads[next as usize],
+                    demands[depth],
+                    h,
+                ) {
                     next += 1;
                     continue 'choices;
                 }
-                // An empty core is passed over where a lower one is empty too.
-                if loads[next as usize] == 0 && moves::some_empty(&loads, next) {
+                // An empty core is passed over where a lower twin is empty too.
+                if loads[next as usize] == 0 && moves::some_empty_twin(&loads, &twins, next) {
                     next += 1;
                     continue 'choices;
                 }
@@ -91,12 +107,30 @@ fn walk(demands: [u32; 16], n: usize, m: u32, h: u32, total: u32, excess: u32, l
     }
 }
 
-// The walk over n demands in planning order, on m cores and the hyperperiod h, in at most `limit` steps.
-pub fn search(demands: [u32; 16], n: usize, m: usize, h: u32, limit: u32) -> Found
+// The walk over n demands and core bytes in planning order, on m cores and the hyperperiod h, in at most `limit` steps.
+pub fn search(
+    demands: [u32; 16],
+    affinity: [u8; 16],
+    n: usize,
+    m: usize,
+    h: u32,
+    limit: u32,
+) -> Found
     requires { ⌜ Ranges demands n m h ⌝ }
-    ensures { λ r. ⌜ r ≡ foundOf (answer (problemOf h m (take n demands)) limit) ⌝ }
+    ensures { λ r. ⌜ r ≡ foundOf (answer (problemOf h m (take n demands) (take n affinity)) limit) ⌝ }
 {
     let total = moves::total_demand(demands, n);
     let excess = moves::excess_of(total, m, h);
-    walk(demands, n, m as u32, h, total, excess, limit)
+    let twins = moves::twin_rows(affinity, n);
+    walk(
+        demands,
+        affinity,
+        twins,
+        n,
+        m as u32,
+        h,
+        total,
+        excess,
+        limit,
+    )
 }

@@ -8,13 +8,15 @@ use Rattle.numbers.specs.Bounds.{outside}
 use Rattle.numbers.specs.First.{first}
 use Rattle.numbers.specs.Loads.{demandOn}
 use Rattle.numbers.specs.Rows.{entry}
+use Rattle.affinity.specs.Permitted.{allowed}
 use Rattle.refusal.specs.Tests.{_then_, refuseIf, refuseAt, inOrder}
 use Rattle.refusal.specs.declared.Cause.{Cause}
-use Rattle.refusal.specs.declared.Cause.the-variants.{Placement, CoreNumber, Overload}
+use Rattle.refusal.specs.declared.Cause.the-variants.{Placement, CoreNumber, Overload, NotPermitted}
 use Rattle.refusal.specs.declared.Outcome.{Outcome}
 use Rattle.refusal.specs.declared.Outcome.the-variants.{Accepted, Refused}
 use Rattle.taskset.specs.declared.Fields.{Fields}
 use Rattle.taskset.specs.declared.TaskSet.{TaskSet}
+use Rattle.taskset.specs.Fields.{affinityAt}
 use Rattle.taskset.specs.Reading.{taskSetOf}
 use Rattle.stored.specs.Form.{fieldsOf}
 use Rattle.stored.specs.Tests.{tableOutcome}
@@ -41,6 +43,13 @@ aboveAt placement m k = ltb m (entry placement k)
 abbrev pub entriesTest : Fields → List ℕ → Outcome
 entriesTest f placement = refuseAt (first (aboveAt placement (f .m)) (f .n)) Placement
 
+-- number 16: the placement uses a core that the task's byte does not permit
+unfoldable pub barredAt : Fields → List ℕ → ℕ → Bool
+barredAt f placement k = not (allowed (affinityAt f k) (entry placement k))
+
+abbrev pub permittedTest : Fields → List ℕ → Outcome
+permittedTest f placement = refuseAt (first (barredAt f placement) (f .n)) NotPermitted
+
 -- number 10: the core number is 0 or above m
 abbrev pub coreTest : Fields → ℕ → Outcome
 coreTest f core = refuseIf (outside 1 (f .m) core) CoreNumber
@@ -49,10 +58,11 @@ coreTest f core = refuseIf (outside 1 (f .m) core) CoreNumber
 abbrev pub loadTest : TaskSet → List ℕ → ℕ → Outcome
 loadTest t placement core = refuseIf (ltb (t .hyperperiod) (loadOf t placement core)) Overload
 
--- numbers 9 to 11, in their order
+-- numbers 9, 16, 10 and 11, in this order
 abbrev pub placingTests : TaskSet → List ℕ → ℕ → List Outcome
 placingTests t placement core =
-    placesTest (t .fields) placement ∷ entriesTest (t .fields) placement ∷ coreTest (t .fields) core ∷ loadTest t placement core ∷ []
+    placesTest (t .fields) placement ∷ entriesTest (t .fields) placement ∷ permittedTest (t .fields) placement ∷ coreTest (t .fields) core
+    ∷ loadTest t placement core ∷ []
 
 -- the answer where the call is refused: a record of zeros beside the cause
 unfoldable pub refusedStart : Cause → Started
@@ -67,10 +77,12 @@ startBy Accepted tasks core = record { outcome = Accepted; core = record { slots
 unfoldable pub placingOutcome : TaskSet → List ℕ → ℕ → Outcome
 placingOutcome t placement core = inOrder (placingTests t placement core)
 
--- the tests of the table and the charge come first
-unfoldable pub startOutcome : List ℕ → ℕ → List ℕ → ℕ → Outcome
-startOutcome table charge placement core = tableOutcome table charge then placingOutcome (taskSetOf (fieldsOf table charge)) placement core
+-- the tests of the table, and of the charge and core bytes beside it, come first
+unfoldable pub startOutcome : List ℕ → ℕ → List ℕ → List ℕ → ℕ → Outcome
+startOutcome table charge affinity placement core =
+    tableOutcome table charge affinity then placingOutcome (taskSetOf (fieldsOf table charge affinity)) placement core
 
--- the answer for a table, the charge beside it, a placement and a core number
-unfoldable pub startOf : List ℕ → ℕ → List ℕ → ℕ → Started
-startOf table charge placement core = startBy (startOutcome table charge placement core) (placedTasks (fieldsOf table charge) placement) core
+-- the answer for a table, the charge and core bytes beside it, a placement and a core number
+unfoldable pub startOf : List ℕ → ℕ → List ℕ → List ℕ → ℕ → Started
+startOf table charge affinity placement core =
+    startBy (startOutcome table charge affinity placement core) (placedTasks (fieldsOf table charge affinity) placement) core

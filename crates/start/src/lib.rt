@@ -8,7 +8,7 @@ ghost use Rattle.numbers.specs.First.{first};
 ghost use Rattle.edf.specs.Fresh.{slotFor, freshSlots};
 ghost use Rattle.refusal.specs.Conditions.{Decides};
 ghost use Rattle.taskset.specs.Limits.{Checked};
-ghost use Rattle.start.specs.Starts.{placedTasks, loadOf, placesTest, aboveAt, entriesTest, coreTest, loadTest, placingOutcome, refusedStart, startBy, startOf};
+ghost use Rattle.start.specs.Starts.{placedTasks, loadOf, placesTest, aboveAt, entriesTest, barredAt, permittedTest, coreTest, loadTest, placingOutcome, refusedStart, startBy, startOf};
 ghost use Rattle.start.specs.Limits.{ValidStart, startConditions, Starts};
 use edf::Slot;
 use refusal::Cause;
@@ -59,6 +59,38 @@ fn entries_test(f: Fields, placement: &[u8]) -> Outcome
     refusal::refuse_if(task != 0, Cause::Placement(task))
 }
 
+// Whether the placement puts the task at `k` on a core that its byte does not permit.
+fn is_barred(f: Fields, placement: &[u8], k: usize) -> bool
+    requires { ⌜ k < 16 ⌝ }
+    ensures { λ r. ⌜ r ≡ barredAt f (now (placement .entry)) k ⌝ }
+{
+    !affinity::allows(f.affinity[k], wire::byte(placement, k))
+}
+
+// The first task, from 1, that is placed on a core that its byte does not permit; 0 if there is none.
+fn first_barred(f: Fields, placement: &[u8]) -> usize
+    requires { ⌜ f .n ≤ 16 ⌝ }
+    ensures { λ r. ⌜ r ≡ first (barredAt f (now (placement .entry))) (f .n) ⌝ }
+{
+    let mut k = 0;
+    while k < f.n {
+        if is_barred(f, placement, k) {
+            return k + 1;
+        }
+        k += 1;
+    }
+    0
+}
+
+// Number 16.
+fn permitted_test(f: Fields, placement: &[u8]) -> Outcome
+    requires { ⌜ f .n ≤ 16 ⌝ }
+    ensures { λ r. ⌜ r ≡ permittedTest f (now (placement .entry)) ⌝ }
+{
+    let task = first_barred(f, placement);
+    refusal::refuse_if(task != 0, Cause::NotPermitted(task))
+}
+
 // Number 10.
 fn core_test(f: Fields, core: u8) -> Outcome
     ensures { λ r. ⌜ r ≡ coreTest f core ⌝ }
@@ -106,7 +138,7 @@ fn load_test(t: TaskSet, placement: &[u8], core: u8) -> Outcome
     refusal::refuse_if(t.hyperperiod < load, Cause::Overload)
 }
 
-// Numbers 9 to 11.
+// Numbers 9, 16, 10 and 11.
 fn placing_tests(t: TaskSet, placement: &[u8], core: u8) -> Outcome
     requires { ⌜ Checked t ⌝ }
     ensures { λ r. ⌜ r ≡ placingOutcome t (now (placement .entry)) core ⌝ }
@@ -114,11 +146,13 @@ fn placing_tests(t: TaskSet, placement: &[u8], core: u8) -> Outcome
     let f = t.fields;
     let places = places_test(f, placement);
     let entries = entries_test(f, placement);
+    let permitted = permitted_test(f, placement);
     let number = core_test(f, core);
     let load = load_test(t, placement, core);
-    let last = refusal::then(number, load);
-    let later = refusal::then(entries, last);
-    refusal::then(places, later)
+    let from_number = refusal::then(number, load);
+    let from_permitted = refusal::then(permitted, from_number);
+    let from_entries = refusal::then(entries, from_permitted);
+    refusal::then(places, from_entries)
 }
 
 // The slot of a task that is first released at tick 0; all zeros if it is not placed on the core.
@@ -190,13 +224,14 @@ pub fn start(t: TaskSet, placement: &[u8], core: u8) -> Started
     }
 }
 
-// The record that core `number` of a stored table starts from under a placement, on a board with this charge, or the first cause of refusal.
-pub fn fresh(table: &[u8], charge: u32, placement: &[u8], number: u8) -> Started
-    ensures answer { λ r. ⌜ r ≡ startOf (now (table .entry)) charge (now (placement .entry)) number ⌝ }
-    ensures decides { λ r. ⌜ Decides (ValidStart (now (table .entry)) charge (now (placement .entry)) number) (startConditions (now (table .entry)) charge (now (placement .entry)) number) (r .outcome) ⌝ }
-    ensures starts { λ r. ⌜ Starts (now (table .entry)) charge (now (placement .entry)) number r ⌝ }
+// The record that core `number` of a stored table starts from under a placement, on a board with this charge and with these core
+// bytes, or the first cause of refusal.
+pub fn fresh(table: &[u8], charge: u32, affinity: &[u8], placement: &[u8], number: u8) -> Started
+    ensures answer { λ r. ⌜ r ≡ startOf (now (table .entry)) charge (now (affinity .entry)) (now (placement .entry)) number ⌝ }
+    ensures decides { λ r. ⌜ Decides (ValidStart (now (table .entry)) charge (now (affinity .entry)) (now (placement .entry)) number) (startConditions (now (table .entry)) charge (now (affinity .entry)) (now (placement .entry)) number) (r .outcome) ⌝ }
+    ensures starts { λ r. ⌜ Starts (now (table .entry)) charge (now (affinity .entry)) (now (placement .entry)) number r ⌝ }
 {
-    let reading = stored::read_charged(table, charge);
+    let reading = stored::read_beside(table, charge, affinity);
     let outcome = reading.outcome;
     match outcome {
         Outcome::Refused(cause) => refused(cause),

@@ -1,35 +1,46 @@
--- The fields of a table made of sizes, periods and budgets are these; and the steps of the decoder.
+-- The fields of a table made of sizes, periods and budgets are these, with what is given beside it; and the steps of the decoder.
 use Prim.Native.Nat.{ℕ, _+_, _*_, _≤_, _<_, min}
 use mathlib.Core.Path.{_≡_, refl, sym, _∙_, ap}
 use mathlib.Core.List.{List, [], _∷_, _++_, append-nil}
 use mathlib.Core.Logic.{by-cases}
 use native.Mathlib.Omega.{arith}
 use native.Mathlib.Decide.{decLt}
-use lib.ListN.{length, getD, length-append, length-replicate, List·getD-eq-default}
-use Rattle.numbers.specs.Rows.{row, upTo, padded}
-use Rattle.numbers.proofs.RowLaws.{getD-tab, upTo-below, upTo-above, length-row, row-ext, Filled, fill-done}
+use lib.ListN.{length, getD, replicate, length-append, length-replicate, getD-replicate, List·getD-eq-default}
+use Rattle.numbers.specs.Rows.{row, upTo, entry, padded}
+use Rattle.numbers.proofs.RowLaws.{getD-tab, getD-row, upTo-below, upTo-above, length-row, row-ext, Filled, fill-done}
 use Rattle.numbers.proofs.ZeroLaws.{getD-padded}
 use Rattle.wire.specs.Bytes.{wordAt, bytesOfAll}
 use Rattle.wire.proofs.ReadBackLaws.{read-back, length-bytes}
-use Rattle.stored.specs.Form.{fieldsOf, tableOf, FieldsReadBack}
+use Rattle.affinity.specs.Permitted.{everyCore}
+use Rattle.taskset.specs.Fields.{affinityAt}
+use Rattle.taskset.specs.declared.Fields.{Fields}
+use Rattle.stored.specs.Form.{taskCount, coreCount, fieldsWith, fieldsOf, everyAffinity, fieldsAlone, tableOf, FieldsReadBack}
 
 -- a row that is read back is the list, with zeros up to sixteen
-row-read : (xs : List ℕ) {n : ℕ} (f : ℕ → ℕ) → length xs ≡ n → n ≤ 16
-    → ((k : ℕ) → k < length xs → f k ≡ getD xs k 0) → row 0 n f ≡ padded xs
+row-read : (xs : List ℕ) {n : ℕ} (f : ℕ → ℕ) → length xs ≤ n → n ≤ 16
+    → ((k : ℕ) → k < n → f k ≡ getD xs k 0) → row 0 n f ≡ padded xs
 row-read xs {n} f e few h =
     let long : length (padded xs) ≡ 16 = simp (length-append, length-replicate) (omega arith) in
     sym (row-ext 0 n f (padded xs) long
     (λ k b. getD-padded xs k
     ∙ by-cases (decLt k n)
-    (λ l. sym (upTo-below 0 n f k l ∙ h k (omega arith)))
+    (λ l. sym (upTo-below 0 n f k l ∙ h k l))
     (λ l. List·getD-eq-default xs 0 (omega arith) ∙ sym (upTo-above 0 n f k (omega arith)))))
 
 pub fields-read-back : FieldsReadBack
 unfolding fieldsOf
-fields-read-back m charge periods budgets few e p b = λ i. record { n = length periods; m = m; charge = charge; periods = there i; budgets = here i }
+fields-read-back m charge periods budgets affinity few e short p b = λ i. record {
+  n = length periods;
+  m = m;
+  charge = charge;
+  periods = there i;
+  budgets = here i;
+  affinity = row-read affinity (entry affinity) short few (λ k h. refl) i;
+  given = length affinity;
+}
   where
     there : row 0 (length periods) (wordAt (tableOf m periods budgets) 2) ≡ padded periods
-    there = row-read periods _ refl few (read-back periods p .each (length periods ∷ m ∷ []) (bytesOfAll budgets))
+    there = row-read periods _ (omega arith) few (read-back periods p .each (length periods ∷ m ∷ []) (bytesOfAll budgets))
 
     split : tableOf m periods budgets ≡ (length periods ∷ m ∷ bytesOfAll periods) ++ (bytesOfAll budgets ++ [])
     split = rw append-nil
@@ -38,7 +49,7 @@ fields-read-back m charge periods budgets few e p b = λ i. record { n = length 
     at = omega (arith, length-bytes periods)
 
     here : row 0 (length periods) (wordAt (tableOf m periods budgets) (2 + 4 * length periods)) ≡ padded budgets
-    here = row-read budgets _ e few (λ k h. rw (split, at) (read-back budgets b .each (_ ∷ m ∷ bytesOfAll periods) [] k h))
+    here = row-read budgets _ (omega arith) few (λ k h. rw (split, at) (read-back budgets b .each (_ ∷ m ∷ bytesOfAll periods) [] k (omega arith)))
 
 -- a row has sixteen entries, however large n is
 row-most : (n : ℕ) (f : ℕ → ℕ) {l : List ℕ} → l ≡ row 0 (min n 16) f → l ≡ row 0 n f
@@ -53,3 +64,33 @@ row-most n f {l} e =
 -- the loop that fills at most sixteen of n entries
 pub fill-most : (n : ℕ) {f : ℕ → ℕ} {count : ℕ} {l : List ℕ} {k : ℕ} → Filled 0 count f l k → count ≡ min n 16 → count ≤ k → l ≡ row 0 n f
 fill-most n {f} s e h = row-most n f (fill-done s h ∙ ap (λ (x : ℕ). row 0 x f) e)
+
+-- one byte for each of n tasks
+pub same-byte : (n k x : ℕ) {count : ℕ} → count ≡ min n 16 → k < count → x ≡ entry (replicate n x) k
+same-byte n k x e h = sym (getD-replicate n k x 0 (omega arith))
+
+-- Where every core is permitted there is a byte for each task, and it permits every core.
+module _ (s : List ℕ) (charge : ℕ) where
+  pub every-listed : fieldsOf s charge (everyAffinity s) .given ≡ fieldsOf s charge (everyAffinity s) .n
+  unfolding fieldsOf everyAffinity
+  every-listed = length-replicate (taskCount s) (everyCore (coreCount s))
+
+  pub every-affinity : fieldsOf s charge (everyAffinity s) .n ≤ 16 → (k : ℕ) → k < fieldsOf s charge (everyAffinity s) .n
+      → affinityAt (fieldsOf s charge (everyAffinity s)) k ≡ everyCore (fieldsOf s charge (everyAffinity s) .m)
+  unfolding fieldsOf everyAffinity
+  every-affinity few k h =
+      getD-row 0 (taskCount s) (entry (replicate (taskCount s) (everyCore (coreCount s)))) k h few
+      ∙ getD-replicate (taskCount s) k (everyCore (coreCount s)) 0 h
+
+-- The fields that the readers decode.
+module _ (s : List ℕ) {g : Fields} {row16 : List ℕ} where
+  pub fields-beside : (charge : ℕ) (affinity : List ℕ) {given n : ℕ} → g ≡ fieldsWith s charge row16 given
+      → row16 ≡ row 0 n (entry affinity) → n ≡ taskCount s → given ≡ length affinity → g ≡ fieldsOf s charge affinity
+  unfolding fieldsOf
+  fields-beside charge affinity e p q l = e ∙ rw (p, q, l)
+
+  pub fields-alone : {byte n m : ℕ} → g ≡ fieldsWith s 0 row16 n → row16 ≡ row 0 n (entry (replicate n byte))
+      → byte ≡ everyCore m → n ≡ taskCount s → m ≡ coreCount s → g ≡ fieldsAlone s
+  unfolding everyAffinity
+  fields-alone {byte} {n} {m} e p q a b =
+      fields-beside 0 (replicate (taskCount s) (everyCore (coreCount s))) e (p ∙ rw (q, b, a)) a (rw length-replicate a)

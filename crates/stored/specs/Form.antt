@@ -2,9 +2,10 @@
 use Prim.Native.Nat.{ℕ, _+_, _*_, _≤_}
 use mathlib.Core.Path.{_≡_}
 use mathlib.Core.List.{List, _∷_, _++_}
-use lib.ListN.{length, getD}
-use Rattle.numbers.specs.Rows.{row, padded}
+use lib.ListN.{length, getD, replicate}
+use Rattle.numbers.specs.Rows.{row, entry, padded}
 use Rattle.wire.specs.Bytes.{wordAt, bytesOfAll, Words}
+use Rattle.affinity.specs.Permitted.{everyCore}
 use Rattle.taskset.specs.declared.Fields.{Fields}
 
 -- byte 0: the number of tasks, n
@@ -16,21 +17,36 @@ abbrev pub coreCount : List ℕ → ℕ
 coreCount s = getD s 1 0
 
 -- the sizes, then n periods, then n budgets (the paper's times) in the same layout and task order; bytes past the end count as 0;
--- the charge is given beside the table
-unfoldable pub fieldsOf : List ℕ → ℕ → Fields
-fieldsOf s charge = record {
+-- beside the table the charge, and sixteen core bytes with how many were given
+abbrev pub fieldsWith : List ℕ → ℕ → List ℕ → ℕ → Fields
+fieldsWith s charge affinity given = record {
   n = taskCount s;
   m = coreCount s;
   charge = charge;
   periods = row 0 (taskCount s) (wordAt s 2);
   budgets = row 0 (taskCount s) (wordAt s (2 + 4 * taskCount s));
+  affinity = affinity;
+  given = given;
 }
+
+-- the fields of a table, the charge beside it, and a row of core bytes, of which the first n are used
+unfoldable pub fieldsOf : List ℕ → ℕ → List ℕ → Fields
+fieldsOf s charge affinity = fieldsWith s charge (row 0 (taskCount s) (entry affinity)) (length affinity)
+
+-- the row that permits every core of the table to each task
+unfoldable pub everyAffinity : List ℕ → List ℕ
+everyAffinity s = replicate (taskCount s) (everyCore (coreCount s))
+
+-- the fields of a table that is read by itself: the charge is 0, and each task may use every core
+abbrev pub fieldsAlone : List ℕ → Fields
+fieldsAlone s = fieldsOf s 0 (everyAffinity s)
 
 -- the bytes of a table of m cores
 abbrev pub tableOf : ℕ → List ℕ → List ℕ → List ℕ
 tableOf m periods budgets = length periods ∷ m ∷ (bytesOfAll periods ++ bytesOfAll budgets)
 
--- The fields of a table made of sizes, periods and budgets are these, with zeros up to sixteen.
+-- The fields of a table made of sizes, periods and budgets, with a charge and core bytes beside it, are these, with zeros up to sixteen.
 abbrev pub FieldsReadBack : Type 0
-FieldsReadBack = (m charge : ℕ) (periods budgets : List ℕ) → length periods ≤ 16 → length budgets ≡ length periods → Words periods → Words budgets
-    → _≡_ {A = Fields} (fieldsOf (tableOf m periods budgets) charge) (record { n = length periods; m = m; charge = charge; periods = padded periods; budgets = padded budgets })
+FieldsReadBack = (m charge : ℕ) (periods budgets affinity : List ℕ)
+    → length periods ≤ 16 → length budgets ≡ length periods → length affinity ≤ length periods → Words periods → Words budgets
+    → _≡_ {A = Fields} (fieldsOf (tableOf m periods budgets) charge affinity) (record { n = length periods; m = m; charge = charge; periods = padded periods; budgets = padded budgets; affinity = padded affinity; given = length affinity })

@@ -1,4 +1,4 @@
--- The tests of a stored table and the charge beside it, in their order, and what reading it gives.
+-- The tests of a stored table, and of the charge and core bytes beside it, in their order, and what reading it gives.
 use Prim.Native.Nat.{ℕ, _+_, _*_}
 use mathlib.Core.List.{List, _∷_, _++_}
 use mathlib.Core.Bool.{not}
@@ -21,9 +21,10 @@ abbrev pub lengthTest : List ℕ → Outcome
 lengthTest s = refuseIf (not (eqb (length s) (2 + 8 * taskCount s))) Length
 
 -- number 1, the sizes, number 4, the limits
-unfoldable pub tableOutcome : List ℕ → ℕ → Outcome
-tableOutcome s charge = inOrder (shortTest s ∷ sizeTests (fieldsOf s charge) ++ lengthTest s ∷ limitTests (fieldsOf s charge))
+unfoldable pub tableOutcome : List ℕ → ℕ → List ℕ → Outcome
+tableOutcome s charge affinity =
+    inOrder (shortTest s ∷ sizeTests (fieldsOf s charge affinity) ++ lengthTest s ∷ limitTests (fieldsOf s charge affinity))
 
--- the answer for a table and a charge
-unfoldable pub readingOf : List ℕ → ℕ → Reading
-readingOf s charge = readingBy (tableOutcome s charge) (fieldsOf s charge)
+-- the answer for a table, a charge and a row of core bytes
+unfoldable pub readingOf : List ℕ → ℕ → List ℕ → Reading
+readingOf s charge affinity = readingBy (tableOutcome s charge affinity) (fieldsOf s charge affinity)

@@ -1,14 +1,15 @@
 // The stored table: its bytes become fields, and these a task set or a refusal.
 ghost use mathlib.Core.Path.{_≡_};
 ghost use Prim.Native.Nat.{_<_};
-ghost use Rattle.numbers.specs.Rows.{row};
+ghost use lib.ListN.{replicate};
+ghost use Rattle.numbers.specs.Rows.{row, entry};
 ghost use Rattle.refusal.specs.Tests.{inOrder, _then_};
 ghost use Rattle.refusal.specs.Conditions.{Decides};
 ghost use Rattle.wire.specs.Bytes.{wordAt};
 ghost use Rattle.taskset.specs.Tests.{sizeTests};
 ghost use Rattle.taskset.specs.Limits.{Reads};
 ghost use mathlib.Core.List.{_∷_};
-ghost use Rattle.stored.specs.Form.{fieldsOf};
+ghost use Rattle.stored.specs.Form.{taskCount, coreCount, fieldsWith, everyAffinity};
 ghost use Rattle.stored.specs.Tests.{shortTest, lengthTest, readingOf};
 ghost use Rattle.stored.specs.Limits.{Valid, conditions, tableConditions};
 use refusal::Cause;
@@ -32,12 +33,56 @@ fn words(s: &[u8], at: usize, n: usize) -> [u32; 16]
     entries
 }
 
-// The fields that the bytes say, with the charge beside them; bytes past the end count as 0.
-fn decode(s: &[u8], charge: u32) -> Fields
-    ensures { λ r. ⌜ r ≡ fieldsOf (now (s .entry)) charge ⌝ }
+// The first `n` bytes of `s`, at most sixteen, and zeros up to sixteen.
+fn bytes(s: &[u8], n: usize) -> [u8; 16]
+    ensures { λ r. ⌜ r ≡ row 0 n (entry (now (s .entry))) ⌝ }
 {
-    let n = wire::size(wire::byte(s, 0));
-    let m = wire::size(wire::byte(s, 1));
+    let count = numbers::at_most_sixteen(n);
+    let mut entries = [0u8; 16];
+    let mut k = 0;
+    while k < count {
+        let next = numbers::with_byte(entries, k, wire::byte(s, k));
+        entries = next;
+        k += 1;
+    }
+    entries
+}
+
+// A byte `n` times, at most sixteen, and zeros up to sixteen.
+fn repeated(byte: u8, n: usize) -> [u8; 16]
+    ensures { λ r. ⌜ r ≡ row 0 n (entry (replicate n byte)) ⌝ }
+{
+    let count = numbers::at_most_sixteen(n);
+    let mut entries = [0u8; 16];
+    let mut k = 0;
+    while k < count {
+        let next = numbers::with_byte(entries, k, byte);
+        entries = next;
+        k += 1;
+    }
+    entries
+}
+
+// The number of tasks, n.
+fn task_count(s: &[u8]) -> usize
+    ensures { λ r. ⌜ (r ≡ taskCount (now (s .entry))) × (r < 256) ⌝ }
+{
+    wire::size(wire::byte(s, 0))
+}
+
+// The number of cores, m.
+fn core_count(s: &[u8]) -> usize
+    ensures { λ r. ⌜ r ≡ coreCount (now (s .entry)) ⌝ }
+{
+    wire::size(wire::byte(s, 1))
+}
+
+// The fields that the bytes say, with the charge and the core bytes beside them; bytes past the end count as 0.
+fn decode(s: &[u8], charge: u32, affinity: [u8; 16], given: usize) -> Fields
+    ensures { λ r. ⌜ r ≡ fieldsWith (now (s .entry)) charge affinity given ⌝ }
+{
+    let n = task_count(s);
+    let m = core_count(s);
     let periods = words(s, 2, n);
     let budgets = words(s, 2 + 4 * n, n);
     Fields {
@@ -46,6 +91,8 @@ fn decode(s: &[u8], charge: u32) -> Fields
         periods: periods,
         budgets: budgets,
         charge: charge,
+        affinity: affinity,
+        given: given,
     }
 }
 
@@ -60,10 +107,7 @@ fn short_test(s: &[u8]) -> Outcome
 fn length_test(s: &[u8]) -> Outcome
     ensures { λ r. ⌜ r ≡ lengthTest (now (s .entry)) ⌝ }
 {
-    refusal::refuse_if(
-        s.len() != 2 + 8 * wire::size(wire::byte(s, 0)),
-        Cause::Length,
-    )
+    refusal::refuse_if(s.len() != 2 + 8 * task_count(s), Cause::Length)
 }
 
 // Number 1, the sizes of the fields, number 4.
@@ -77,22 +121,28 @@ fn shape_tests(s: &[u8], f: Fields) -> Outcome
     refusal::then(first, exact)
 }
 
-// Reads a stored table for a board with this charge: its task set, or the first cause of refusal.
-pub fn read_charged(table: &[u8], charge: u32) -> Reading
-    ensures answer { λ r. ⌜ r ≡ readingOf (now (table .entry)) charge ⌝ }
-    ensures decides { λ r. ⌜ Decides (Valid (now (table .entry)) charge) (conditions (now (table .entry)) charge) (r .outcome) ⌝ }
+// Reads a stored table with what is given beside it: the board's charge, and a core byte for each task. Its task set, or the first
+// cause of refusal.
+pub fn read_beside(table: &[u8], charge: u32, affinity: &[u8]) -> Reading
+    ensures answer { λ r. ⌜ r ≡ readingOf (now (table .entry)) charge (now (affinity .entry)) ⌝ }
+    ensures decides { λ r. ⌜ Decides (Valid (now (table .entry)) charge (now (affinity .entry))) (conditions (now (table .entry)) charge (now (affinity .entry))) (r .outcome) ⌝ }
     ensures reads { λ r. ⌜ Reads r ⌝ }
 {
-    let f = decode(table, charge);
+    let row = bytes(affinity, task_count(table));
+    let f = decode(table, charge, row, affinity.len());
     let shape = shape_tests(table, f);
     taskset::check_after(shape, f)
 }
 
-// Reads a stored table by itself, with charge 0: its task set, or the first cause of refusal.
+// Reads a stored table by itself, with charge 0 and every core permitted: its task set, or the first cause of refusal.
 pub fn read_table(table: &[u8]) -> Reading
-    ensures answer { λ r. ⌜ r ≡ readingOf (now (table .entry)) 0 ⌝ }
-    ensures decides { λ r. ⌜ Decides (Valid (now (table .entry)) 0) (tableConditions (now (table .entry))) (r .outcome) ⌝ }
+    ensures answer { λ r. ⌜ r ≡ readingOf (now (table .entry)) 0 (everyAffinity (now (table .entry))) ⌝ }
+    ensures decides { λ r. ⌜ Decides (Valid (now (table .entry)) 0 (everyAffinity (now (table .entry)))) (tableConditions (now (table .entry))) (r .outcome) ⌝ }
     ensures reads { λ r. ⌜ Reads r ⌝ }
 {
-    read_charged(table, 0)
+    let n = task_count(table);
+    let every = repeated(affinity::every_core(core_count(table)), n);
+    let f = decode(table, 0, every, n);
+    let shape = shape_tests(table, f);
+    taskset::check_after(shape, f)
 }

@@ -1,23 +1,34 @@
 -- Fields are accepted exactly if they are within the limits, and refused with the first condition that holds.
-use Prim.Native.Nat.{ℕ, _+_, _-_, _≤_}
-use mathlib.Core.Path.{_≡_, refl}
-use mathlib.Core.Bool.{true}
-use mathlib.Core.Logic.{_↔_}
+use Prim.Native.Nat.{ℕ, _+_, _-_, _≤_, _<_}
+use mathlib.Core.Path.{_≡_, refl, sym, _∙_}
+use mathlib.Core.Bool.{true, false, true≢false}
+use mathlib.Core.Logic.{_↔_, ⊎-elim}
 use native.Mathlib.Omega.{arith}
 use borrow.Author.Tests.{ltb-true, lt-ltb}
-use Rattle.numbers.proofs.BoundLaws.{outside-exactly, not-outside, less-exactly, not-less}
+use Rattle.numbers.proofs.BoundLaws.{outside-exactly, not-outside, less-exactly, not-less, unequal-exactly, not-unequal}
 use Rattle.numbers.proofs.MultipleLaws.{lcms-exactly}
+use Rattle.numbers.proofs.BoolLaws.{true-or-false}
+use Rattle.affinity.specs.Permitted.{unfit, Unfit, everyCore}
+use Rattle.affinity.proofs.PermittedLaws.{unfit-says, fit-byte, fit-not, every-fits}
 use Rattle.refusal.specs.Tests.{inOrder}
 use Rattle.refusal.specs.Conditions.{Fails, None}
-use Rattle.refusal.specs.declared.Cause.the-variants.{TaskCount, CoreCount, Period, Budget, Hyperperiod, Charge, Cost}
+use Rattle.refusal.specs.declared.Cause.the-variants.{TaskCount, CoreCount, Period, Budget, Hyperperiod, Charge, Cost, Affinity}
 use Rattle.refusal.proofs.TestLaws.{inOrder-append}
 use Rattle.refusal.proofs.ConditionLaws.{Reports, test-only, test-at, _and_, no-more, then-reports, none-append, _also_, Tested}
-use Rattle.taskset.specs.Fields.{periodAt, budgetAt, costAt}
+use Rattle.taskset.specs.Fields.{periodAt, budgetAt, costAt, affinityAt}
 use Rattle.taskset.specs.Demands.{multipleTo, hyperperiodOf}
-use Rattle.taskset.specs.Tests.{badPeriod, badBudget, badCost, exceeds, sizeTests, limitTests, fieldsOutcome}
-use Rattle.taskset.specs.Limits.{Sized, Within, Exceeds, sizes, chargeAbove, budgetOutside, costAbove, limits, fieldConditions}
+use Rattle.taskset.specs.Tests.{badPeriod, badBudget, badCost, badAffinity, exceeds, sizeTests, limitTests, fieldsOutcome}
+use Rattle.taskset.specs.Limits.{Sized, Within, Exceeds, sizes, chargeAbove, budgetOutside, costAbove, rowOther, affinityUnfit, limits, fieldConditions}
 use Rattle.taskset.specs.declared.Fields.{Fields}
 use Rattle.taskset.proofs.DemandLaws.{multiple-bound}
+
+-- a byte that is not unfit as a statement is not unfit by the test
+not-unfit : (byte m : ℕ) → (Unfit byte m → ⊥) → unfit byte m ≡ false
+not-unfit byte m n = ⊎-elim (λ t. absurd (n (unfit-says byte m .0 t))) (λ e. e) (true-or-false (unfit byte m))
+
+-- a byte that is fit is not unfit as a statement
+fit-fails : (byte m : ℕ) → unfit byte m ≡ false → Unfit byte m → ⊥
+fit-fails byte m e u = true≢false (sym (unfit-says byte m .1 u) ∙ e)
 
 module _ (f : Fields) where
   -- the multiple that is computed is the least common multiple
@@ -37,12 +48,14 @@ module _ (f : Fields) where
       and no-more
 
   pub limits-reported : Reports (limits f) (inOrder (limitTests f))
-  unfolding inOrder badPeriod badBudget badCost
+  unfolding inOrder badPeriod badBudget badCost badAffinity
   limits-reported =
       test-only Charge refl (less-exactly 9 (f .charge))
       and test-at Period (λ k. (refl, refl)) (λ k. outside-exactly 1 10000 (periodAt f k))
       and test-at Budget (λ k. (refl, refl)) (λ k. outside-exactly 1 (periodAt f k) (budgetAt f k))
       and test-at Cost (λ k. (refl, refl)) (λ k. less-exactly (periodAt f k) (costAt f k))
+      and test-only (Affinity 0) refl (unequal-exactly (f .given) (f .n))
+      and test-at Affinity (λ k. (refl, refl)) (λ k. unfit-says (affinityAt f k) (f .m))
       and test-at Hyperperiod (λ k. (refl, refl)) exceeds-exactly
       and no-more
 
@@ -61,10 +74,12 @@ module _ (f : Fields) where
     periods = λ k h. not-outside 1 10000 (periodAt f k) .0 (n .1 .0 k h);
     budgets = λ k h. not-outside 1 (periodAt f k) (budgetAt f k) .0 (n .1 .1 .0 k h);
     costs = λ k h. not-less (periodAt f k) (costAt f k) (n .1 .1 .1 .0 k h);
+    listed = not-unequal _ _ (n .1 .1 .1 .1 .0);
+    affinities = λ k h. fit-byte (f .m) (affinityAt f k) (z .cores .1) (not-unfit (affinityAt f k) (f .m) (n .1 .1 .1 .1 .1 .0 k h));
     multiple =
         let q : f .n ≡ f .n - 1 + 1 = omega (arith, z .tasks .0) in
         let m : multipleTo f (f .n - 1 + 1) ≤ 1000000 =
-        not-less 1000000 _ (λ h. n .1 .1 .1 .1 .0 (f .n - 1) (omega arith) (exceeds-exactly (f .n - 1) .0 (lt-ltb 1000000 _ h))) in
+        not-less 1000000 _ (λ h. n .1 .1 .1 .1 .1 .1 .0 (f .n - 1) (omega arith) (exceeds-exactly (f .n - 1) .0 (lt-ltb 1000000 _ h))) in
         rw (← q) at m;
   }
 
@@ -75,6 +90,8 @@ module _ (f : Fields) where
       also (λ k h. not-outside 1 10000 (periodAt f k) .1 (w .periods k h))
       also (λ k h. not-outside 1 (periodAt f k) (budgetAt f k) .1 (w .budgets k h))
       also (λ k h g. omega (arith, w .costs k h))
+      also (λ n. n (w .listed))
+      also (λ k h. fit-fails (affinityAt f k) (f .m) (fit-not (f .m) (affinityAt f k) (w .affinities k h)))
       also (λ k h x. omega (arith, multiple-bound w k h, ltb-true 1000000 (multipleTo f (k + 1)) (exceeds-exactly k .1 x)))
       also tt
 
@@ -99,3 +116,11 @@ module _ (f : Fields) (e : f .charge ≡ 0) where
 
   pub costs-uncharged : Fails (budgetOutside f) → Fails (costAbove f)
   costs-uncharged n k h g = omega (arith, not-outside 1 (periodAt f k) (budgetAt f k) .0 (n k h) .1)
+
+-- Where each task is given every core, number 15 never holds.
+module _ (f : Fields) where
+  pub row-every : f .given ≡ f .n → Fails (rowOther f)
+  row-every e n = n e
+
+  pub affinity-every : Sized f → ((k : ℕ) → k < f .n → affinityAt f k ≡ everyCore (f .m)) → Fails (affinityUnfit f)
+  affinity-every z every k h = rw (every k h) (fit-fails (everyCore (f .m)) (f .m) (every-fits (f .m) (z .cores .0) (z .cores .1)))

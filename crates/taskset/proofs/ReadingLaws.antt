@@ -40,7 +40,7 @@ module _ (f : Fields) where
   reading-promised (Refused c) w = record {
     checked = λ e. absurd (accepted≢refused e refl);
     exact = λ e. absurd (accepted≢refused e refl);
-    refused = λ n. record { tasks = refl; cores = refl; charge = refl; periods = refl; budgets = refl; hyperperiod = refl; demands = refl };
+    refused = λ n. record { tasks = refl; cores = refl; charge = refl; periods = refl; budgets = refl; affinity = refl; given = refl; hyperperiod = refl; demands = refl };
   }
 
 -- What is promised of an accepted reading: a checked task set, of at most sixteen tasks.

@@ -13,3 +13,7 @@ budgetAt f k = entry (f .budgets) k
 -- what a task costs its core for a period: its budget, and the charge (the field's switch cost)
 abbrev pub costAt : Fields → ℕ → ℕ
 costAt f k = budgetAt f k + f .charge
+
+-- the core byte of a task (the field's affinity)
+abbrev pub affinityAt : Fields → ℕ → ℕ
+affinityAt f k = entry (f .affinity) k

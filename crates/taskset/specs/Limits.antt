@@ -7,10 +7,11 @@ use lib.ListN.{replicate}
 use Rattle.numbers.specs.Bounds.{Outside}
 use Rattle.numbers.specs.Multiples.{IsLcm}
 use Rattle.numbers.specs.Rows.{entry}
+use Rattle.affinity.specs.Permitted.{Unfit, CoreByte}
 use Rattle.refusal.specs.Causes.{numberIn}
 use Rattle.refusal.specs.Conditions.{Condition, only, at}
 use Rattle.refusal.specs.declared.Outcome.the-variants.{Accepted}
-use Rattle.taskset.specs.Fields.{periodAt, budgetAt}
+use Rattle.taskset.specs.Fields.{periodAt, budgetAt, affinityAt}
 use Rattle.taskset.specs.Demands.{hyperperiodOf}
 use Rattle.taskset.specs.Reading.{taskSetOf}
 use Rattle.taskset.specs.declared.Fields.{Fields}
@@ -29,6 +30,8 @@ pub record Within (f : Fields) : Type 0 where
   pub periods : (k : ℕ) → k < f .n → (1 ≤ periodAt f k) × (periodAt f k ≤ 10000)
   pub budgets : (k : ℕ) → k < f .n → (1 ≤ budgetAt f k) × (budgetAt f k ≤ periodAt f k)
   pub costs : (k : ℕ) → k < f .n → budgetAt f k + f .charge ≤ periodAt f k
+  pub listed : f .given ≡ f .n
+  pub affinities : (k : ℕ) → k < f .n → CoreByte (f .m) (affinityAt f k)
   pub multiple : hyperperiodOf f ≤ 1000000
 
 -- The least common multiple of the periods up to the task at k is above 1,000,000.
@@ -39,7 +42,8 @@ Exceeds f k = (h : ℕ) × IsLcm (periodAt f) (k + 1) h × (1000000 < h)
 abbrev pub sizes : Fields → List Condition
 sizes f = only 2 (Outside 1 16 (f .n)) ∷ only 3 (Outside 1 4 (f .m)) ∷ []
 
--- The refusals of the limits, each by its number: 5, 6 and 7 look at the table alone, 13 and 14 at the charge beside it.
+-- The refusals of the limits, each by its number: 5, 6 and 7 look at the table alone, 13 and 14 at the charge beside it,
+-- 15 at the core bytes beside it: at their number, and at each.
 abbrev pub chargeAbove : Fields → Condition
 chargeAbove f = only 13 (9 < f .charge)
 
@@ -52,12 +56,18 @@ budgetOutside f = at 6 (λ k. Outside 1 (periodAt f k) (budgetAt f k)) (f .n)
 abbrev pub costAbove : Fields → Condition
 costAbove f = at 14 (λ k. periodAt f k < budgetAt f k + f .charge) (f .n)
 
+abbrev pub rowOther : Fields → Condition
+rowOther f = only 15 (f .given ≢ f .n)
+
+abbrev pub affinityUnfit : Fields → Condition
+affinityUnfit f = at 15 (λ k. Unfit (affinityAt f k) (f .m)) (f .n)
+
 abbrev pub multipleAbove : Fields → Condition
 multipleAbove f = at 7 (Exceeds f) (f .n)
 
 -- They are tested in this order, each over all tasks before the next.
 abbrev pub limits : Fields → List Condition
-limits f = chargeAbove f ∷ periodOutside f ∷ budgetOutside f ∷ costAbove f ∷ multipleAbove f ∷ []
+limits f = chargeAbove f ∷ periodOutside f ∷ budgetOutside f ∷ costAbove f ∷ rowOther f ∷ affinityUnfit f ∷ multipleAbove f ∷ []
 
 -- The refusals of fields, in the order of their tests.
 abbrev pub fieldConditions : Fields → List Condition
@@ -83,6 +93,8 @@ pub record RefusedReading (r : Reading) : Type 0 where
   pub charge : r .tasks .fields .charge ≡ 0
   pub periods : r .tasks .fields .periods ≡ replicate 16 0
   pub budgets : r .tasks .fields .budgets ≡ replicate 16 0
+  pub affinity : r .tasks .fields .affinity ≡ replicate 16 0
+  pub given : r .tasks .fields .given ≡ 0
   pub hyperperiod : r .tasks .hyperperiod ≡ 0
   pub demands : r .tasks .demands ≡ replicate 16 0
 

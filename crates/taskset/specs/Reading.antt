@@ -28,7 +28,7 @@ taskSetOf f = record { fields = f; hyperperiod = hyperperiodOf f; demands = row 
 -- all zeros
 unfoldable pub noTasks : TaskSet
 noTasks = record {
-  fields = record { n = 0; m = 0; charge = 0; periods = replicate 16 0; budgets = replicate 16 0 };
+  fields = record { n = 0; m = 0; charge = 0; periods = replicate 16 0; budgets = replicate 16 0; affinity = replicate 16 0; given = 0 };
   hyperperiod = 0;
   demands = replicate 16 0;
 }

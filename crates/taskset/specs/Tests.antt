@@ -1,14 +1,15 @@
--- The tests of fields: numbers 2 and 3 of the sizes; number 13, then 5, 6, 14 and 7 of the limits.
+-- The tests of fields: numbers 2 and 3 of the sizes; number 13, then 5, 6, 14, 15 and 7 of the limits.
 use Prim.Native.Nat.{ℕ, _+_}
 use mathlib.Core.List.{List, [], _∷_, _++_}
-use mathlib.Core.Bool.{Bool}
-use lib.Dec.{ltb}
+use mathlib.Core.Bool.{Bool, not}
+use lib.Dec.{ltb, eqb}
 use Rattle.numbers.specs.Bounds.{outside}
 use Rattle.numbers.specs.First.{first}
+use Rattle.affinity.specs.Permitted.{unfit}
 use Rattle.refusal.specs.Tests.{refuseIf, refuseAt, inOrder}
-use Rattle.refusal.specs.declared.Cause.the-variants.{TaskCount, CoreCount, Period, Budget, Hyperperiod, Charge, Cost}
+use Rattle.refusal.specs.declared.Cause.the-variants.{TaskCount, CoreCount, Period, Budget, Hyperperiod, Charge, Cost, Affinity}
 use Rattle.refusal.specs.declared.Outcome.{Outcome}
-use Rattle.taskset.specs.Fields.{periodAt, budgetAt, costAt}
+use Rattle.taskset.specs.Fields.{periodAt, budgetAt, costAt, affinityAt}
 use Rattle.taskset.specs.Demands.{multipleTo}
 use Rattle.taskset.specs.declared.Fields.{Fields}
 
@@ -45,6 +46,17 @@ badCost f k = ltb (periodAt f k) (costAt f k)
 abbrev pub costsTest : Fields → Outcome
 costsTest f = refuseAt (first (badCost f) (f .n)) Cost
 
+-- number 15: the row of core bytes has another length than n,
+abbrev pub rowTest : Fields → Outcome
+rowTest f = refuseIf (not (eqb (f .given) (f .n))) (Affinity 0)
+
+-- or a byte is 0 or has a bit above core m
+unfoldable pub badAffinity : Fields → ℕ → Bool
+badAffinity f k = unfit (affinityAt f k) (f .m)
+
+abbrev pub affinityTest : Fields → Outcome
+affinityTest f = refuseAt (first (badAffinity f) (f .n)) Affinity
+
 -- number 7: with this task's period the least common multiple exceeds 1,000,000
 unfoldable pub exceeds : Fields → ℕ → Bool
 exceeds f k = ltb 1000000 (multipleTo f (k + 1))
@@ -56,9 +68,9 @@ hyperperiodTest f = refuseAt (first (exceeds f) (f .n)) Hyperperiod
 abbrev pub sizeTests : Fields → List Outcome
 sizeTests f = tasksTest f ∷ coresTest f ∷ []
 
--- the limits: number 13, then 5, 6, 14 and 7, each over all tasks before the next
+-- the limits: number 13, then 5, 6, 14, 15 and 7, each over all tasks before the next
 abbrev pub limitTests : Fields → List Outcome
-limitTests f = chargeTest f ∷ periodsTest f ∷ budgetsTest f ∷ costsTest f ∷ hyperperiodTest f ∷ []
+limitTests f = chargeTest f ∷ periodsTest f ∷ budgetsTest f ∷ costsTest f ∷ rowTest f ∷ affinityTest f ∷ hyperperiodTest f ∷ []
 
 -- the sizes, then the limits
 unfoldable pub fieldsOutcome : Fields → Outcome

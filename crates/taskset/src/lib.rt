@@ -7,20 +7,23 @@ ghost use Rattle.refusal.specs.Tests.{_then_, inOrder};
 ghost use Rattle.refusal.specs.Conditions.{Decides};
 ghost use Rattle.refusal.specs.declared.Outcome.the-variants.{Accepted};
 ghost use Rattle.taskset.specs.Demands.{hyperperiodOf, demandOf};
-ghost use Rattle.taskset.specs.Tests.{tasksTest, coresTest, chargeTest, badPeriod, badBudget, badCost, periodsTest, budgetsTest, costsTest, hyperperiodTest, sizeTests, limitTests};
+ghost use Rattle.taskset.specs.Tests.{tasksTest, coresTest, chargeTest, badPeriod, badBudget, badCost, badAffinity, periodsTest, budgetsTest, costsTest, rowTest, affinityTest, hyperperiodTest, sizeTests, limitTests};
 ghost use Rattle.taskset.specs.Reading.{multipleOf, refusedReading, acceptedReading, readingBy, checkOf};
 ghost use Rattle.taskset.specs.Limits.{Sized, Within, fieldConditions, Reads};
 use refusal::Cause;
 use refusal::Outcome;
 
-// What a stored table says, and the board's charge (the field's switch cost): the numbers of tasks and cores, and a period and
-// a budget (the paper's time) for each task. A reader makes the entries beyond n 0.
+// What a stored table says: the numbers of tasks and cores, and a period and a budget (the paper's time) for each task. Beside it
+// the board's charge (the field's switch cost), and a core byte (the field's affinity) for each task with how many of them were
+// given: a stored form that holds them has n. A reader makes the entries beyond n 0.
 pub struct Fields {
     pub n: usize,
     pub m: usize,
     pub periods: [u32; 16],
     pub budgets: [u32; 16],
     pub charge: u32,
+    pub affinity: [u8; 16],
+    pub given: usize,
 }
 
 // A task set: fields within the limits, their hyperperiod (the paper's frame H) and the exact demand (its weight) of each task.
@@ -96,6 +99,14 @@ fn is_bad_cost(f: Fields, k: usize) -> bool
     (f.periods[k] as u64) < numbers::sum(f.budgets[k], f.charge)
 }
 
+// Whether the core byte of task `k` is 0 or has a bit above core m.
+fn is_bad_affinity(f: Fields, k: usize) -> bool
+    requires { ⌜ (k < 16) × (f .m ≤ 4) ⌝ }
+    ensures { λ r. ⌜ r ≡ badAffinity f k ⌝ }
+{
+    affinity::is_unfit(f.affinity[k], f.m)
+}
+
 // The first task, from 1, with a bad period; 0 if there is none.
 fn first_bad_period(f: Fields) -> usize
     requires { ⌜ f .n ≤ 16 ⌝ }
@@ -134,6 +145,21 @@ fn first_bad_cost(f: Fields) -> usize
     let mut k = 0;
     while k < f.n {
         if is_bad_cost(f, k) {
+            return k + 1;
+        }
+        k += 1;
+    }
+    0
+}
+
+// The first task, from 1, whose core byte is 0 or has a bit above core m; 0 if there is none.
+fn first_bad_affinity(f: Fields) -> usize
+    requires { ⌜ Sized f ⌝ }
+    ensures { λ r. ⌜ r ≡ first (badAffinity f) (f .n) ⌝ }
+{
+    let mut k = 0;
+    while k < f.n {
+        if is_bad_affinity(f, k) {
             return k + 1;
         }
         k += 1;
@@ -192,6 +218,22 @@ fn costs_test(f: Fields) -> Outcome
     refusal::refuse_if(task != 0, Cause::Cost(task))
 }
 
+// Number 15: the row of core bytes has another length than n,
+fn row_test(f: Fields) -> Outcome
+    ensures { λ r. ⌜ r ≡ rowTest f ⌝ }
+{
+    refusal::refuse_if(f.given != f.n, Cause::Affinity(0))
+}
+
+// or a byte is 0 or has a bit above core m.
+fn affinity_test(f: Fields) -> Outcome
+    requires { ⌜ Sized f ⌝ }
+    ensures { λ r. ⌜ r ≡ affinityTest f ⌝ }
+{
+    let task = first_bad_affinity(f);
+    refusal::refuse_if(task != 0, Cause::Affinity(task))
+}
+
 // Number 7.
 fn hyperperiod_test(f: Fields) -> Outcome
     requires { ⌜ f .n ≤ 16 ⌝ }
@@ -201,17 +243,21 @@ fn hyperperiod_test(f: Fields) -> Outcome
     refusal::refuse_if(task != 0, Cause::Hyperperiod(task))
 }
 
-// Number 13, then 5, 6, 14 and 7.
+// Number 13, then 5, 6, 14, 15 and 7.
 fn limit_tests(f: Fields) -> Outcome
-    requires { ⌜ f .n ≤ 16 ⌝ }
+    requires { ⌜ Sized f ⌝ }
     ensures { λ r. ⌜ r ≡ inOrder (limitTests f) ⌝ }
 {
     let charge = charge_test(f);
     let periods = periods_test(f);
     let budgets = budgets_test(f);
     let costs = costs_test(f);
+    let row = row_test(f);
+    let affinity = affinity_test(f);
     let hyperperiod = hyperperiod_test(f);
-    let from_costs = refusal::then(costs, hyperperiod);
+    let from_affinity = refusal::then(affinity, hyperperiod);
+    let from_row = refusal::then(row, from_affinity);
+    let from_costs = refusal::then(costs, from_row);
     let from_budgets = refusal::then(budgets, from_costs);
     let from_periods = refusal::then(periods, from_budgets);
     refusal::then(charge, from_periods)
@@ -258,6 +304,8 @@ fn refused(cause: Cause) -> Reading
         periods: [0; 16],
         budgets: [0; 16],
         charge: 0,
+        affinity: [0; 16],
+        given: 0,
     };
     let tasks = TaskSet {
         fields: fields,

@@ -26,7 +26,7 @@ def sixteen(row):
 
 
 def edges():
-    faulty = [table for table, _ in sets_of_faults(range(2, 8))]
+    faulty = [table for table, *_ in sets_of_faults(range(2, 8), most=6)]
     return [(table,) for table in paper_rows() + shapes() + entries() + faulty
             + hyperperiods() + planning_orders()]
 

@@ -16,5 +16,8 @@ taken-first load d h l =
     (λ x. rw (lt-leb load (h - d) (omega arith), lt-leb (load + d) h x))
     (λ x. rw (le-leb load (h - d) (omega arith), le-leb (load + d) h (omega arith)))
 
+returns : tie.Need-returns
+returns c = rw (c .permits .ensures, taken-first _ _ _ (c .before .pre .0))
+
 pub has-room-spec : {M : Type 1} → statement M
-has-room-spec = tie.close (tie.spec (λ c. search needs) (λ c. taken-first _ _ _ (c .pre)))
+has-room-spec = tie.close (tie.spec (λ c κs. search needs) (λ c. search needs) returns)

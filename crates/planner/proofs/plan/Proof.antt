@@ -6,17 +6,17 @@ use Rattle.planner.proofs.plan.Statement.{statement}
 use Rattle.planner.proofs.plan.Tie as tie
 
 plan-tasks-requires : tie.Need-plan-tasks-requires
-plan-tasks-requires c κs = c .before .before .read-charged .ensures .1 .1 .checked (cc)
+plan-tasks-requires c κs = c .before .before .read-beside .ensures .1 .1 .checked (cc)
 
 returns : tie.Need-returns
 returns c =
-    let e = plan-refused _ _ (c .before .before .before .before .read-charged .ensures .0) _ (c .refused .ensures) (cc) in
-    (e, (plan-decides _ _ _ e, plan-promised _ _ _ e))
+    let e = plan-refused _ _ _ (c .before .before .before .before .read-beside .ensures .0) _ (c .refused .ensures) (cc) in
+    (e, (plan-decides _ _ _ _ e, plan-promised _ _ _ _ e))
 
 returns-2 : tie.Need-returns-2
 returns-2 c =
-    let e = plan-accepted _ _ (c .before .before .before .read-charged .ensures .0) _ (cc) (c .plan-tasks .ensures) in
-    (e, (plan-decides _ _ _ e, plan-promised _ _ _ e))
+    let e = plan-accepted _ _ _ (c .before .before .before .read-beside .ensures .0) _ (cc) (c .plan-tasks .ensures) in
+    (e, (plan-decides _ _ _ _ e, plan-promised _ _ _ _ e))
 
 pub plan-spec : {M : Type 1} → statement M
 plan-spec =

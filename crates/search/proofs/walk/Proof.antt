@@ -12,35 +12,36 @@ use Rattle.search.proofs.walk.Statement.{statement}
 use Rattle.search.proofs.walk.Tie as tie
 
 abbrev Inv-choices : tie.InvT-choices
-Inv-choices n m h total excess limit demands deepest path₀ loads₀ out₀ best₀ rejected₀ bound₀ steps₀ spent₀ depth₀ next₀ path loads out best rejected bound steps spent depth next =
-    Walking (job demands n m h limit) (locals path loads out best rejected bound steps depth next) × (depth ≡ depth₀) × (steps₀ ≤ steps) × (spent ≡ false) × Improving excess m out bound next
+Inv-choices n m h total excess limit demands affinity twins deepest path₀ loads₀ out₀ best₀ rejected₀ bound₀ steps₀ spent₀ depth₀ next₀ path loads out best rejected bound steps spent depth next =
+    Walking (job demands affinity n m h limit) (locals path loads out best rejected bound steps depth next) × (depth ≡ depth₀) × (steps₀ ≤ steps) × (spent ≡ false) × Improving excess m out bound next
 
 abbrev μ-choices : tie.MeasureT-choices
-μ-choices n m h total excess limit demands deepest path₀ loads₀ out₀ best₀ rejected₀ bound₀ steps₀ spent₀ depth₀ next₀ path loads out best rejected bound steps spent depth next =
+μ-choices n m h total excess limit demands affinity twins deepest path₀ loads₀ out₀ best₀ rejected₀ bound₀ steps₀ spent₀ depth₀ next₀ path loads out best rejected bound steps spent depth next =
     m + 2 - next
 
 abbrev Inv-tasks : tie.InvT-tasks
-Inv-tasks n m h total excess limit demands deepest path₀ loads₀ out₀ best₀ rejected₀ bound₀ steps₀ spent₀ depth₀ next₀ path loads out best rejected bound steps spent depth next =
-    Walking (job demands n m h limit) (locals path loads out best rejected bound steps depth next) × (spent ≡ false) × Improving excess m out bound next
+Inv-tasks n m h total excess limit demands affinity twins deepest path₀ loads₀ out₀ best₀ rejected₀ bound₀ steps₀ spent₀ depth₀ next₀ path loads out best rejected bound steps spent depth next =
+    Walking (job demands affinity n m h limit) (locals path loads out best rejected bound steps depth next) × (spent ≡ false) × Improving excess m out bound next
 
 abbrev μ-tasks : tie.MeasureT-tasks
-μ-tasks n m h total excess limit demands deepest path₀ loads₀ out₀ best₀ rejected₀ bound₀ steps₀ spent₀ depth₀ next₀ path loads out best rejected bound steps spent depth next =
+μ-tasks n m h total excess limit demands affinity twins deepest path₀ loads₀ out₀ best₀ rejected₀ bound₀ steps₀ spent₀ depth₀ next₀ path loads out best rejected bound steps spent depth next =
     2 * (limit - steps) + depth
 
 -- the choice that is entered, where the ways to it have met
 entering : (c : tie.Joined1 Inv-choices μ-choices Inv-tasks μ-tasks)
     → let a = c .before .before .before .args in
     let l = c .before .choices in
-    Looked (job (a .t1) (a .n) (a .m) (a .h) (a .limit))
+    Looked (job (a .t1) (a .t2) (a .n) (a .m) (a .h) (a .limit))
     (locals (l .path) (l .loads) (l .out) (l .best) (l .rejected) (l .bound) (l .steps) (l .depth) (l .next)) (c .if1 .c) true
 entering c =
     let l = c .before .choices in
     let e = c .before .before .before .pre .excess-is in
+    let t = c .before .before .before .pre .twins-are in
     ⊎-elim
     (λ w. let core = l .inv .0 in
     rw (w .4) (⊎-elim
-    (λ v. core-lowest core (w .0 .taken) e (l .inv .4) (w .1 .ensures) (w .2 .left) (v .2 .ensures) (v .3 .left))
-    (λ v. core-used core (w .0 .taken) e (l .inv .4) (w .1 .ensures) (w .2 .left) (v .left))
+    (λ v. core-lowest core (w .0 .taken) t e (l .inv .4) (w .1 .ensures) (w .2 .left) (v .3 .ensures) (v .4 .left))
+    (λ v. core-used core (w .0 .taken) t e (l .inv .4) (w .1 .ensures) (w .2 .left) (v .left))
     (w .3 .came)))
     (λ w. rw (w .3) (none-looked (l .inv .0) (w .0 .left) (w .1 .left) e (l .inv .4) (w .2 .left)))
     (c .if1 .came)
@@ -49,7 +50,7 @@ entering c =
 none-left : (c : tie.Joined5 Inv-choices μ-choices Inv-tasks μ-tasks)
     → let a = c .before .before .before .before .args in
     let l = c .before .before .choices in
-    Walking (job (a .t1) (a .n) (a .m) (a .h) (a .limit))
+    Walking (job (a .t1) (a .t2) (a .n) (a .m) (a .h) (a .limit))
     (locals (l .path) (l .loads) (l .out) (l .best) (l .rejected) (l .bound) (l .steps) (l .depth) (a .m + 1))
 none-left c =
     let l = c .before .before .choices in
@@ -60,29 +61,32 @@ none-left c =
     (c .if5 .came)
 
 add-bound : tie.Need-add-bound Inv-choices μ-choices Inv-tasks μ-tasks
-add-bound c = omega (arith, c .pre .total-is, total-small (c .pre .ranges))
+add-bound c = omega (arith, c .pre .total-is, total-small (c .pre .ranges) (c .args .t2))
 
 tasks-holds : tie.Need-tasks-holds Inv-choices μ-choices Inv-tasks μ-tasks
 tasks-holds c =
     let a = c .args in
     let g = c .pre .ranges in
-    (walk-start (job (a .t1) (a .n) (a .m) (a .h) (a .limit)) (ranges-fixed g (search needs)) (g .some) _ (c .pre .total-is), refl, record { excess-below = omega (arith, c .pre .total-is, c .pre .excess-is); out-below = λ h. omega arith })
+    (walk-start (job (a .t1) (a .t2) (a .n) (a .m) (a .h) (a .limit)) (ranges-fixed g (a .t2) (search needs)) (g .some) _ (c .pre .total-is), refl, record { excess-below = omega (arith, c .pre .total-is, c .pre .excess-is); out-below = λ h. omega arith })
 
 has-room-requires : tie.Need-has-room-requires Inv-choices μ-choices Inv-tasks μ-tasks
-has-room-requires c κs = c .before .before .before .pre .ranges .each (c .before .choices .depth)
+has-room-requires c κs =
+    let r = c .before .before .before .pre .ranges in
+    (r .each (c .before .choices .depth), omega (arith, c .if1 .taken, r .few-cores))
 
 choices-again : tie.Need-choices-again Inv-choices μ-choices Inv-tasks μ-tasks
 choices-again c =
     let l = c .before .before .before .choices in
     let e = c .before .before .before .before .before .pre .excess-is in
-    (skips (core-unfit (l .inv .0) (c .before .before .if1 .taken) e (l .inv .4) (c .before .has-room .ensures) (c .if2 .taken)), l .inv .1, l .inv .2, l .inv .3, next-one (l .inv .4))
+    let t = c .before .before .before .before .before .pre .twins-are in
+    (skips (core-unfit (l .inv .0) (c .before .before .if1 .taken) t e (l .inv .4) (c .before .has-room .ensures) (c .if2 .taken)), l .inv .1, l .inv .2, l .inv .3, next-one (l .inv .4))
 
 choices-again-2 : tie.Need-choices-again-2 Inv-choices μ-choices Inv-tasks μ-tasks
 choices-again-2 c =
-    let g = c .before .before .before .before .before in
+    let g = c .before .before .before .before .before .before in
     let l = g .before .before .choices in
-    let e = g .before .before .before .before .pre .excess-is in
-    (skips (core-passed (l .inv .0) (g .before .if1 .taken) e (l .inv .4) (g .has-room .ensures) (c .before .before .before .before .if2 .left) (c .before .before .before .if3 .taken) (c .before .some-empty .ensures) (c .if4 .taken)), l .inv .1, l .inv .2, l .inv .3, next-one (l .inv .4))
+    let start = g .before .before .before .before in
+    (skips (core-passed (l .inv .0) (g .before .if1 .taken) (start .pre .twins-are) (start .pre .excess-is) (l .inv .4) (g .has-room .ensures) (c .before .before .before .before .before .if2 .left) (c .before .before .before .before .if3 .taken) (c .before .some-empty-twin .ensures) (c .if4 .taken)), l .inv .1, l .inv .2, l .inv .3, next-one (l .inv .4))
 
 add-if6 : tie.Need-add-if6 Inv-choices μ-choices Inv-tasks μ-tasks
 add-if6 c = omega (arith, load-small (c .before .before .choices .inv .0) 0)
@@ -151,7 +155,7 @@ storing : (c : tie.After-pick3 Inv-choices μ-choices Inv-tasks μ-tasks)
     let l = g .before .choices in
     let p = c .before .before .with-choice .result in
     let w = l .out + c .pick3 .result in
-    Walking (job (a .t1) (a .n) (a .m) (a .h) (a .limit)) (locals p (l .loads) (l .out) p w w (l .steps + 1) (l .depth) (a .m + 1))
+    Walking (job (a .t1) (a .t2) (a .n) (a .m) (a .h) (a .limit)) (locals p (l .loads) (l .out) p w w (l .steps + 1) (l .depth) (a .m + 1))
 storing c =
     let v = entering (c .before .before .before .before .before) in
     stores v (c .before .before .before .before .if8 .left) (omega (arith, c .before .if9 .left))
@@ -178,4 +182,4 @@ returns-3 c =
 
 pub walk-spec : {M : Type 1} → statement M
 walk-spec =
-    tie.close (tie.spec Inv-choices μ-choices Inv-tasks μ-tasks (λ c. search needs) add-bound tasks-holds (λ c. search needs) (λ c. search needs) (λ c. search needs) (λ c. search needs) (λ c. search needs) (λ c. search needs) has-room-requires (λ c. search needs) (λ c. search needs) choices-again (λ c. search needs) (λ c. search needs) (λ c. search needs) (λ c κs. search needs) (λ c. search needs) (λ c. search needs) choices-again-2 (λ c. search needs) (λ c. search needs) (λ c. search needs) add-if6 (λ c. search needs) (λ c. search needs) cast-last (λ c. search needs) (λ c. search needs) with-less-requires (λ c. search needs) (λ c. search needs) (λ c κs. search needs) sub-out (λ c κs. search needs) (λ c. search needs) tasks-again (λ c. search needs) (λ c. search needs) cast-with-choice-2 with-choice-requires (λ c. search needs) (λ c. search needs) with-more-requires (λ c. search needs) (λ c. search needs) (λ c κs. search needs) add-out (λ c. search needs) tasks-less-2 tasks-again-2 (λ c. search needs) (λ c. search needs) (λ c κs. search needs) add-rejected (λ c. search needs) choices-less-3 choices-again-3 returns returns-2 returns-3)
+    tie.close (tie.spec Inv-choices μ-choices Inv-tasks μ-tasks (λ c. search needs) add-bound tasks-holds (λ c. search needs) (λ c. search needs) (λ c. search needs) (λ c. search needs) (λ c. search needs) (λ c. search needs) (λ c. search needs) has-room-requires (λ c. search needs) (λ c. search needs) choices-again (λ c. search needs) (λ c. search needs) (λ c. search needs) (λ c κs. search needs) (λ c. search needs) (λ c. search needs) choices-again-2 (λ c. search needs) (λ c. search needs) (λ c. search needs) add-if6 (λ c. search needs) (λ c. search needs) cast-last (λ c. search needs) (λ c. search needs) with-less-requires (λ c. search needs) (λ c. search needs) (λ c κs. search needs) sub-out (λ c κs. search needs) (λ c. search needs) tasks-again (λ c. search needs) (λ c. search needs) cast-with-choice-2 with-choice-requires (λ c. search needs) (λ c. search needs) with-more-requires (λ c. search needs) (λ c. search needs) (λ c κs. search needs) add-out (λ c. search needs) tasks-less-2 tasks-again-2 (λ c. search needs) (λ c. search needs) (λ c κs. search needs) add-rejected (λ c. search needs) choices-less-3 choices-again-3 returns returns-2 returns-3)

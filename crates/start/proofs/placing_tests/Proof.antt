@@ -9,4 +9,5 @@ pub placing-tests-spec : {M : Type 1} → statement M
 unfolding placingOutcome
 placing-tests-spec =
     tie.close (tie.spec (λ c κs. search needs) (λ c κs. search needs) (λ c κs. search needs) (λ c κs. search needs)
-    (λ c κs. search needs) (λ c κs. search needs) (λ c κs. search needs) (λ c. search (needs, order-step, order-last)))
+    (λ c κs. search needs) (λ c κs. search needs) (λ c κs. search needs) (λ c κs. search needs) (λ c κs. search needs)
+    (λ c. search (needs, order-step, order-last)))

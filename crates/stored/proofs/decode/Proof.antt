@@ -1,14 +1,9 @@
 -- The fields are read at their places.
-use Rattle.stored.specs.Form.{fieldsOf}
 use borrow.Author.Needs.{needs}
 use Rattle.stored.proofs.decode.Statement.{statement}
 use Rattle.stored.proofs.decode.Tie as tie
 
-returns : tie.Need-returns
-unfolding fieldsOf
-returns c = cc
-
 pub decode-spec : {M : Type 1} → statement M
 decode-spec =
-    tie.close (tie.spec (λ c κs. search needs) (λ c κs. search needs) (λ c κs. search needs) (λ c κs. search needs)
-    (λ c κs. search needs) (λ c. search needs) (λ c. search needs) (λ c κs. search needs) returns)
+    tie.close (tie.spec (λ c κs. search needs) (λ c κs. search needs) (λ c κs. search needs) (λ c. search needs)
+    (λ c. search needs) (λ c κs. search needs) (λ c. cc))
