@@ -3,8 +3,12 @@
 
 int main(void)
 {
-    /* 2 tasks on 1 core: periods 10 and 10, times 3 and 7 ticks. */
-    static const uint8_t table[] = {2, 1, 10, 0, 0, 0, 10, 0, 0, 0, 3, 0, 0, 0, 7, 0, 0, 0};
+    static const uint8_t table[] = {
+        0, 2, 2, 1,               /* always 0; 2 tasks, 2 cores, switch charge 1 */
+        10, 0, 0, 0, 10, 0, 0, 0, /* periods */
+        3, 0, 0, 0, 7, 0, 0, 0,   /* times */
+        3, 2                      /* task 1 may use both cores, task 2 only core 2 */
+    };
     uint8_t cores[2];
 
     const uint32_t code = millplan_plan(table, sizeof table, 1000000, cores, sizeof cores);

@@ -8,16 +8,20 @@ import subprocess
 import sys
 
 import frame
-from calls import ceiling, core, plan, quick, read, tick
-from samples import LARGEST_WORD, table_of
+from calls import (ceiling, core, plan, quick, read, read_setup, tick, to_new, to_old,
+                   write_setup)
+from samples import LARGEST_WORD, setup_of, table_of
 from ticks import EMPTY, Record, Slot
 
 LONGEST = 1024
 FULL = [LARGEST_WORD] * 16
 ROW_C = table_of(1, [2, 3, 6], [1, 1, 1])
 FOUR_EIGHT = table_of(2, [4, 8], [1, 3])
+SETUP = setup_of(2, 0, [4, 8], [1, 3], [3, 3])
+FIELDS = 1, 2, 1, [4] * 16, [1] * 16, bytes([3] * 16)
 
-# A small input of each call, of a fresh core one accepted, one refused and one without a tick.
+# A small input of each call, of a fresh core one accepted, one refused and one without a tick; of
+# the writer and the moves one with an output that is too short.
 SMALL = [
     (read, (ROW_C,)),
     (plan, (table_of(2, [10] * 3, [7, 6, 4]), 1, bytes([1, 1, 2]), 6)),
@@ -27,6 +31,13 @@ SMALL = [
     (tick, (Record(2, [Slot(4, 2, 0, 1)] + [EMPTY] * 15), FULL)),
     (quick, (table_of(2, [10] * 6, [5, 4, 3, 3, 3, 2]), 0, bytes([3, 2, 1, 3, 3, 3]))),
     (ceiling, (table_of(4, [10] * 5, [6] * 5), 3, bytes([15, 7, 3, 1, 8]))),
+    (read_setup, (SETUP,)),
+    (write_setup, (*FIELDS, bytes(14))),
+    (write_setup, (*FIELDS, bytes(12))),
+    (to_new, (FOUR_EIGHT, bytes(24))),
+    (to_new, (FOUR_EIGHT, bytes(21))),
+    (to_old, (SETUP, bytes(20))),
+    (to_old, (SETUP, b"")),
 ]
 GOOD = frame.case(read.CODE, [ROW_C])
 
@@ -69,7 +80,7 @@ def unknown_codes():
 
 def wrong_lengths():
     """Each block of each small input with another length, followed by a case that is not reached;
-    and the longest block that a table, a row of core bytes or a placement may have."""
+    and the longest block that a table, a row of core bytes, a placement or an output may have."""
     for call, given in SMALL:
         contents = call.contents(*given)
         for k, content in enumerate(contents):
@@ -80,10 +91,14 @@ def wrong_lengths():
                 data = frame.case(call.CODE, contents[:k] + [other] + contents[k + 1:])
                 yield data + GOOD, standing(call, given, k)
     longest, row = bytes([16, 4]) + bytes(LONGEST - 2), bytes(LONGEST)
+    setup = bytes([0, 16, 4]) + bytes(LONGEST - 3)
     for call, given in ((read, (longest,)), (plan, (longest, 9, row, 0)),
                         (plan, (FOUR_EIGHT, 1, row, 0)), (core, (longest, 9, row, row, 1, [])),
                         (core, (FOUR_EIGHT, 1, bytes([1, 3]), row, 1, [])),
-                        (quick, (longest, 9, row)), (ceiling, (longest, 9, row))):
+                        (quick, (longest, 9, row)), (ceiling, (longest, 9, row)),
+                        (read_setup, (setup,)), (write_setup, (*FIELDS, row)),
+                        (to_new, (longest, row)), (to_new, (FOUR_EIGHT, row)),
+                        (to_old, (setup, row)), (to_old, (SETUP, row))):
         yield frame.case(call.CODE, call.contents(*given)) + GOOD, (
             standing(call, given, call.HEAD) + standing(read, (ROW_C,), 1))
 

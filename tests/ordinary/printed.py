@@ -1,74 +1,144 @@
-"""Holds what a program prints to what the ordinary planner says, byte for byte. The program's name
-says which of the two it is: millplan prints the exact plan, quickplan the quick one, both with
-charge 0 and on every core.
+"""Holds what a program prints to what the ordinary programs say, byte for byte. The program's name
+says which it is: millplan prints the exact plan of a set-up and quickplan the quick one; tonew
+moves a table to the new form and toold a set-up back, and say a refusal on standard error.
 
 usage: python3 printed.py SEED COUNT PROGRAM
 """
 
 import subprocess
 import sys
+from collections import namedtuple
 from os.path import basename
 from random import Random
 
 from plans import USUAL_LIMIT, plan
 from quick_plans import quick_plan
-from samples import (first_fits, level_table, packed_table, paper_rows, random_table, shapes,
-                     telling_tables, uneven_table)
-from tables import every_core, read_table
+from samples import (charges, core_byte_edges, damaged, entries, first_fits, hyperperiods,
+                     lowest_permitted, paper_rows, random_table, shapes, telling_tables,
+                     tied_boards, untied)
+from setup_samples import (damaged_setup, old_tables, random_board, setup_faults, setup_from,
+                           setup_rows, setup_shapes, setups_from)
+from setups import board_in, move_back, move_to_new, read_setup
+from tables import Refusal, every_core
 
-MOST_READ = 131
 WORDS = ["all", "short", "spent"]
 
 
-def exact(table):
-    """The exact plan, and the words of its last line."""
-    answer = plan(table, 0, every_core(table), USUAL_LIMIT)
-    return answer, (WORDS[answer.verdict], answer.rejected, answer.steps)
-
-
-def quick(table):
-    """The quick plan, and the words of its last line."""
-    answer = quick_plan(table, 0, every_core(table))
-    return answer, ("quick", answer.rejected)
-
-
-# The most tasks of a random table: the ordinary exact planner is slow.
-PROGRAMS = {"millplan": (exact, 6), "quickplan": (quick, 16)}
-
-
 def main():
-    seed, count, program = sys.argv[1:]
-    planned, most = PROGRAMS[basename(program)]
-    rng = Random(int(seed))
-    inputs = paper_rows() + telling_tables() + shapes() + long_inputs(rng)
-    inputs += [table for table in first_fits() if table[0] <= most]
-    for made in (random_table, level_table, uneven_table, packed_table):
-        inputs += [made(rng, rng.randint(1, most), rng.randint(1, 4))
-                   for _ in range(int(count) // 4)]
+    seed, count, path = sys.argv[1:]
+    program = PROGRAMS[basename(path)]
+    inputs = program.inputs(Random(int(seed)), int(count))
     for data in inputs:
-        run = subprocess.run([program], input=data, capture_output=True, check=True)
-        if run.stdout.decode() != expected(planned, data[:MOST_READ]):
-            sys.exit(f"{basename(program)} differs on the input {data.hex()}:\n"
-                     f"{run.stdout.decode()}")
+        run = subprocess.run([path], input=data, capture_output=True, check=True)
+        if (run.stdout, run.stderr) != program.expected(data[:program.most_read]):
+            sys.exit(f"{basename(path)} differs on the input {data.hex()}:\n"
+                     f"{run.stdout}\n{run.stderr}")
     print(f"{len(inputs)} inputs")
 
 
-def expected(planned, table):
-    answer, last = planned(table)
+# Standard output and standard error.
+
+def exact_report(setup):
+    return report(setup, exact)
+
+
+def quick_report(setup):
+    return report(setup, quick)
+
+
+def report(setup, planned):
+    tasks = read_setup(setup)
+    if isinstance(tasks, Refusal):
+        return text([("refused", *tasks)]), b""
+    placement, last = planned(setup)
+    rows = zip(range(1, tasks.n + 1), tasks.periods, tasks.budgets, placement,
+               map(len, tasks.permitted), map(min, tasks.permitted))
+    return text([("table", tasks.n, tasks.m, tasks.hyperperiod), *rows, last]), b""
+
+
+def exact(setup):
+    """The placement of the exact plan, and the words of its last line."""
+    answer = plan(*board_in(setup), USUAL_LIMIT)
+    return answer.placement, (WORDS[answer.verdict], answer.rejected, answer.steps)
+
+
+def quick(setup):
+    """The placement of the quick plan, and the words of its last line."""
+    answer = quick_plan(*board_in(setup))
+    return answer.placement, ("quick", answer.rejected)
+
+
+def moved_to_new(table):
+    return moved(move_to_new(table, bytes(4 + 9 * 16)))
+
+
+def moved_back(setup):
+    return moved(move_back(setup, bytes(2 + 8 * 16)))
+
+
+def moved(answer):
     if answer.number > 0:
-        return f"refused {answer.number} {answer.place}\n"
-    tasks = read_table(table)
-    rows = zip(range(1, tasks.n + 1), tasks.periods, tasks.budgets, answer.placement)
-    lines = [("table", tasks.n, tasks.m, tasks.hyperperiod), *rows, last]
-    return "".join(" ".join(map(str, line)) + "\n" for line in lines)
+        return b"", text([("refused", answer.number, answer.place)])
+    return answer.out[:answer.length], b""
 
 
-def long_inputs(rng):
-    """The longest table, and inputs longer than the program reads."""
+def text(lines):
+    return "".join(" ".join(map(str, line)) + "\n" for line in lines).encode()
+
+
+# Inputs. The ordinary exact planner is slow, so it gets few tasks.
+
+def few_setups(rng, count):
+    return setups(rng, count, 6)
+
+
+def many_setups(rng, count):
+    return setups(rng, count, 16)
+
+
+def setups(rng, count, most):
+    """Set-ups for every refusal and way of planning, and random ones of up to `most` tasks."""
+    boards = untied(telling_tables() + [table for table in first_fits() if table[0] <= most])
+    boards += [board for board in charges() if board[0][0] <= most]
+    boards += tied_boards() + lowest_permitted() + core_byte_edges()[::5]
+    drawn = [setup_from(*random_board(rng, most)) for _ in range(count)]
+    return (setup_rows() + old_tables() + setup_shapes() + setup_faults(most=1)
+            + setups_from(boards) + long_setups(rng) + [damaged_setup(rng, row) for row in drawn])
+
+
+def fillings(rng, count):
+    """Set-ups that are mostly what the move to the new form gives."""
+    drawn = [random_board(rng) for _ in range(count)]
+    drawn = [setup_from(table, 0, every_core(table)) if k % 4 else setup_from(table, *rest)
+             for k, (table, *rest) in enumerate(drawn)]
+    return (setup_rows() + old_tables() + setup_shapes() + setup_faults(most=2)
+            + long_setups(rng) + [damaged_setup(rng, row) for row in drawn])
+
+
+def tables(rng, count):
+    """Tables of the old form, also longer than the program reads, and random ones."""
     longest = random_table(rng, 16, 1)
-    return [longest, longest + b"\0", longest + bytes(100), bytes([16, 4]) + bytes(5000),
-            bytes([17, 4]) + bytes(5000), bytes([3, 5]) + bytes(200)]
+    return (paper_rows() + shapes() + entries()[::3] + hyperperiods()[::3] + setup_rows()
+            + [longest, longest + b"\0", longest + bytes(100), bytes([16, 4]) + bytes(5000),
+               bytes([17, 4]) + bytes(5000), bytes([3, 5]) + bytes(200)]
+            + [damaged(rng, random_board(rng)[0]) for _ in range(count)])
 
+
+def long_setups(rng):
+    """The longest set-up, and inputs longer than the program reads."""
+    table = random_table(rng, 16, 1)
+    longest = setup_from(table, 0, every_core(table))
+    return [longest, longest + b"\0", longest + bytes(100), bytes([0, 16, 4]) + bytes(5000),
+            bytes([0, 17, 4]) + bytes(5000), bytes([0, 3, 5]) + bytes(200), bytes([1] * 5000)]
+
+
+Program = namedtuple("Program", "most_read expected inputs")
+PROGRAMS = {
+    "millplan": Program(149, exact_report, few_setups),
+    "quickplan": Program(149, quick_report, many_setups),
+    "tonew": Program(131, moved_to_new, tables),
+    "toold": Program(149, moved_back, fillings),
+}
 
 if __name__ == "__main__":
     main()

@@ -2,9 +2,11 @@
 Where no charge is given it is 0, and where no core bytes are given every core is permitted."""
 
 from ceilings import step_ceiling
-from samples import LARGEST_WORD, stretched, table_of, telling_tables
+from samples import LARGEST_WORD, put, setup_of, stretched, table_of, telling_tables
 from plans import ALL, SHORT, SPENT, USUAL_LIMIT, plan
+from printed import exact_report, moved_back, moved_to_new, quick_report
 from quick_plans import quick_plan
+from setups import move_back, move_to_new, read_setup, write_setup
 from tables import Refusal, every_core, read_board, read_table
 from ticks import EMPTY, Record, Slot, fresh_core, run_core, tick
 
@@ -76,6 +78,39 @@ def same_plan(table, charge):
     before = plan(*board_of(table), USUAL_LIMIT)
     after = plan(*board_of(other, charge), USUAL_LIMIT)
     return after == before._replace(rejected=by * before.rejected)
+
+
+def refused(*setups):
+    """Number and place of each of these set-ups, or None where it is accepted."""
+    answers = map(read_setup, setups)
+    return [tuple(answer) if isinstance(answer, Refusal) else None for answer in answers]
+
+
+def written(*changed, out=bytes(31)):
+    """What the writer stores of the listing, with these fields changed; beyond it, what is wild."""
+    fields = [3, 1, 0, TENS + [LARGEST_WORD] * 13, [7, 6, 4] + [0] * 13, [1] * 3 + [255] * 13]
+    for at, field in changed:
+        fields[at] = field
+    return write_setup(*fields[:5], bytes(fields[5]), out)
+
+
+# The listing's table in both forms, byte by byte; and two tied tasks and one that may use either
+# core.
+OLD_LISTING = bytes([3, 1,
+                     10, 0, 0, 0, 10, 0, 0, 0, 10, 0, 0, 0,
+                     7, 0, 0, 0, 6, 0, 0, 0, 4, 0, 0, 0])
+NEW_LISTING = bytes([0, 3, 1, 0,
+                     10, 0, 0, 0, 10, 0, 0, 0, 10, 0, 0, 0,
+                     7, 0, 0, 0, 6, 0, 0, 0, 4, 0, 0, 0,
+                     1, 1, 1])
+TIED = 2, [10, 20, 50], [5, 8, 20], [2, 3, 1]
+
+
+def tied(charge, at=0, entry=None):
+    """The set-up TIED with this charge, and perhaps with another byte at its front."""
+    m, periods, budgets, core_bytes = TIED
+    setup = setup_of(m, charge, periods, budgets, core_bytes)
+    return setup if entry is None else bytes(put(setup, at, entry))
 
 
 DIFFERING = 2, [10] * 6, [5, 4, 3, 3, 3, 2]
@@ -214,6 +249,52 @@ ROWS = {
                            and placed([1, 1, 2], [1, 1, 2], 3) == Refusal(10, 0),
     "permitted": placed([1, 1, 2], [1, 0, 2], 1) == [True, False, False]
                  and placed([2, 2, 2], [0, 0, 0], 1) == [False] * 3,
+    # In the new form.
+    "listing, new form": exact_report(NEW_LISTING)
+                         == (b"table 3 1 10\n1 10 7 0 1 1\n2 10 6 1 1 1\n3 10 4 1 1 1\nshort 7 6\n",
+                             b"")
+                         and quick_report(NEW_LISTING)[0].endswith(b"3 10 4 0 1 1\nquick 10\n"),
+    "charge and tied tasks": exact_report(tied(1))[0] == b"table 3 2 100\n1 10 5 2 1 2\n"
+                             b"2 20 8 1 2 1\n3 50 20 1 1 1\nall 0 3\n"
+                             and exact_report(tied(5))[0] == b"table 3 2 100\n1 10 5 2 1 2\n"
+                             b"2 20 8 1 2 1\n3 50 20 0 1 1\nshort 50 3\n"
+                             and exact_report(tied(6))[0] == b"refused 14 1\n",
+    "cores of a byte": exact_report(setup_of(4, 0, TENS, [1] * 3, [14, 8, 9]))[0].splitlines()[1:4]
+                       == [b"1 10 1 2 3 2", b"2 10 1 4 1 4", b"3 10 1 1 2 1"],
+    "old form where the new is due": refused(OLD_LISTING, table_of(4, [10], [1])) == [(17, 0)] * 2,
+    "1 before 17": refused(b"", bytes([5, 1, 1]), bytes([5, 1, 1, 0]), bytes(3), bytes(4))
+                   == [(1, 0), (1, 0), (17, 0), (1, 0), (2, 0)],
+    "17 before 2, 3 and 4": refused(bytes([1, 17, 5, 10]), bytes([0, 17, 5, 10]),
+                                    bytes([0, 1, 5, 10]), bytes([0, 1, 4, 10])) ==
+                            [(17, 0), (2, 0), (3, 0), (4, 0)],
+    "new length": refused(NEW_LISTING, NEW_LISTING[:-1], NEW_LISTING + b"\0", NEW_LISTING[:26])
+                  == [None, (4, 0), (4, 0), (4, 0)],
+    "4, 13, 5": refused(tied(10, 4, 0) + b"\0", tied(10, 4, 0), tied(9, 4, 0))
+                == [(4, 0), (13, 0), (5, 1)],
+    "move": move_to_new(OLD_LISTING, bytes([9] * 33)) == (0, 0, 31, NEW_LISTING + bytes([9] * 2))
+            and move_back(NEW_LISTING, bytes([9] * 27)) == (0, 0, 26, OLD_LISTING + bytes([9])),
+    "move, printed": moved_to_new(OLD_LISTING) == (NEW_LISTING, b"")
+                     and moved_back(NEW_LISTING) == (OLD_LISTING, b"")
+                     and moved_to_new(NEW_LISTING) == (b"", b"refused 2 0\n")
+                     and moved_back(OLD_LISTING) == (b"", b"refused 17 0\n")
+                     and moved_back(tied(0)) == (b"", b"refused 18 0\n"),
+    "room": move_to_new(OLD_LISTING, bytes(30)) == (8, 0, 0, bytes(30))
+            and move_back(NEW_LISTING, bytes(25)) == (8, 0, 0, bytes(25))
+            and move_to_new(OLD_LISTING + b"\0", b"") == (4, 0, 0, b""),
+    "18": [move_back(bytes(put(NEW_LISTING, at, entry)), b"")[:2]
+           for at, entry in ((3, 1), (3, 3), (3, 4), (28, 0), (28, 3))]
+          == [(18, 0), (18, 0), (14, 1), (15, 1), (15, 1)]
+          and move_back(setup_of(2, 0, TENS, [1] * 3, [3, 3, 1]), b"")[:2] == (18, 0)
+          and move_back(setup_of(2, 0, [1000, 1001], [1] * 2, [3, 1]), b"")[:2] == (7, 2)
+          and move_back(setup_of(2, 0, TENS, [1] * 3, [1, 3, 4]), b"")[:2] == (15, 3),
+    "write": written() == (0, 0, 31, NEW_LISTING)
+             and written(out=bytes([9] * 32)) == (0, 0, 31, NEW_LISTING + bytes([9]))
+             and written(out=bytes([9] * 30)) == (8, 0, 0, bytes([9] * 30)),
+    "fields that must not be cut": [written((at, field), out=b"")[:3] for at, field in
+                                    ((0, 259), (0, 300), (1, 257), (2, 256), (2, 261))]
+                                   == [(2, 0, 0)] * 2 + [(3, 0, 0)] + [(13, 0, 0)] * 2,
+    "beyond n": written((0, 2))[:3] == (0, 0, 22) and written((0, 4))[:3] == (5, 4, 0)
+                and written((0, 17))[:3] == (2, 0, 0),
 }
 
 if __name__ == "__main__":

@@ -25,6 +25,12 @@ def table_of(m, periods, budgets):
     return bytes([len(periods), m]) + numbers(periods) + numbers(budgets)
 
 
+def setup_of(m, charge, periods, budgets, core_bytes):
+    """The same in the new form."""
+    return (bytes([0, len(periods), m, charge]) + numbers(periods) + numbers(budgets)
+            + bytes(core_bytes))
+
+
 def put(row, at, entry):
     """The row with one entry changed."""
     return list(row[:at]) + [entry] + list(row[at + 1:])

@@ -39,18 +39,28 @@ def read_board(table, charge, core_bytes):
     if len(table) < 2:
         return Refusal(1, 0)
     n, m = table[0], table[1]
+    refused = refused_sizes(n, m)
+    if refused:
+        return refused
+    if len(table) != 2 + 8 * n:
+        return Refusal(4, 0)
+    return check_fields(m, charge, words(table, 2, n), words(table, 2 + 4 * n, n), core_bytes)
+
+
+def refused_sizes(n, m):
+    """The Refusal of a number of tasks and one of cores, or None."""
     if not 1 <= n <= MOST_TASKS:
         return Refusal(2, 0)
     if not 1 <= m <= MOST_CORES:
         return Refusal(3, 0)
-    if len(table) != 2 + 8 * n:
-        return Refusal(4, 0)
+    return None
+
+
+def check_fields(m, charge, periods, budgets, core_bytes):
+    """The Refusal of fields whose sizes are allowed, or their TaskSet."""
+    n = len(periods)
     if charge > LARGEST_CHARGE:
         return Refusal(13, 0)
-
-    periods = [word(table, 2 + 4 * k) for k in range(n)]
-    budgets = [word(table, 2 + 4 * n + 4 * k) for k in range(n)]
-
     for k in range(n):
         if not 1 <= periods[k] <= LONGEST_PERIOD:
             return Refusal(5, k + 1)
@@ -77,9 +87,9 @@ def read_board(table, charge, core_bytes):
     return TaskSet(n, m, periods, budgets, charge, permitted, hyperperiod, demands, order)
 
 
-def word(table, at):
-    """The four bytes from `at`, lowest first."""
-    return int.from_bytes(table[at:at + 4], "little")
+def words(table, at, count):
+    """So many numbers from `at`, four bytes each, lowest first."""
+    return [int.from_bytes(table[k:k + 4], "little") for k in range(at, at + 4 * count, 4)]
 
 
 def exact(total, parts):

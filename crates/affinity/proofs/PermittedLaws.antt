@@ -5,15 +5,16 @@ use native.Mathlib.Numerals.{add-one}
 use native.Mathlib.Omega.{arith}
 use mathlib.Core.Path.{_≡_, refl, sym, ap, _∙_}
 use mathlib.Core.Bool.{Bool, true, false, cond, not, _||_, or-true, true≢false}
-use mathlib.Core.Logic.{inl, inr, _↔_, ⊎-elim}
+use mathlib.Core.Logic.{inl, inr, _↔_, ⊎-elim, by-cases}
+use native.Mathlib.Decide.{ℕ-discrete, decLt}
 use lib.Dec.{eqb, ltb}
 use lib.Pow.{pow-mono, pow-pos}
 use lib.Count.{ones, trailingZeros}
-use borrow.Author.Tests.{eq-eqb, ne-eqb, eqb-true, eqb-false, ltb-true, ltb-false, not-false}
+use borrow.Author.Tests.{eq-eqb, ne-eqb, eqb-true, eqb-false, ltb-true, ltb-false, not-true, not-false}
 use Rattle.numbers.specs.First.{first, firstFrom}
 use Rattle.numbers.specs.Sums.{sumTo}
 use Rattle.numbers.proofs.BoolLaws.{true-or-false, cond-le, or-cases, or-false-left, or-false-right}
-use Rattle.numbers.proofs.FirstLaws.{first-zero, first-unique, isFirst-map}
+use Rattle.numbers.proofs.FirstLaws.{first-zero, first-is, first-unique, isFirst-map}
 use Rattle.numbers.proofs.SumLaws.{sumTo-cong, sumTo-above, sumTo-bound, sumTo-grows, sumTo-full, sumTo-ones}
 use Rattle.affinity.specs.Permitted.{permitted, allowed, permittedCount, lowestPermitted, unfit, Unfit, everyCore, CoreByte}
 use Rattle.affinity.proofs.BitLaws.{digit, digit-or, digit-zero, digit-above, ones-digits, trailing-first}
@@ -52,6 +53,11 @@ lowest-zeros byte k l h =
   where
     at : (i : ℕ) → pred (i + 1) ≡ i
     at i = ap pred (add-one i)
+
+-- no bit is set, so no core is permitted
+pub lowest-none : (byte : ℕ) → byte ≡ 0 → 0 ≡ lowestPermitted byte 8
+unfolding lowestPermitted first firstFrom permitted
+lowest-none byte e = rw e
 
 -- ---- fit bytes
 
@@ -116,6 +122,12 @@ fit-not m byte b = ⊎-elim (λ t. absurd (go (unfit-says byte m .0 t))) (λ f. 
     go (inl e) = true≢false (sym (b .some .3) ∙ zero-barred byte (b .some .0) (ap (λ (x : ℕ). digit x (pred (b .some .0))) e ∙ digit-zero (pred (b .some .0))))
     go (inr x) = true≢false (sym (x .2) ∙ b .none-above (x .0) (x .1))
 
+-- a byte that a task may have is not 0
+pub fit-some : (m byte : ℕ) → CoreByte m byte → 1 ≤ byte
+unfolding unfit
+fit-some m zero c = absurd (true≢false (fit-not m zero c))
+fit-some m (suc byte) c = omega arith
+
 -- ---- how many
 
 count-bit : (byte core : ℕ) → cond (permitted byte core) 1 0 ≤ 1
@@ -152,10 +164,6 @@ full-count byte m h = sumTo-cong _ (λ k. 1) m (λ k l. rw (h (suc k) (omega ari
 -- ---- every core
 
 -- the byte that permits every core is 1, 3, 7 or 15
-pub every-is : (m : ℕ) → m ≤ 4 → everyCore m ≡ 2 ^ m - 1
-unfolding everyCore
-every-is m h = ap (λ (x : ℕ). 2 ^ x - 1) (omega arith)
-
 pub every-shift : (m : ℕ) → m < 4 → 15 / 2 ^ (4 - m) ≡ everyCore m
 unfolding everyCore
 every-shift zero h = refl
@@ -200,10 +208,6 @@ pub core-is : (byte c : ℕ) → 1 ≤ c → permitted byte (c - 1 + 1) ≡ allo
 core-is byte zero l = absurd (omega arith)
 core-is byte (suc c) l = ap (permitted byte) (omega arith) ∙ sym (core-allowed byte c)
 
-pub allowed-so : (byte choice : ℕ) → allowed byte choice ≡ true → 1 ≤ choice → permitted byte choice ≡ true
-allowed-so byte zero e l = absurd (omega arith)
-allowed-so byte (suc c) e l = sym (core-allowed byte c) ∙ e
-
 pub so-allowed : (byte choice : ℕ) → (1 ≤ choice → permitted byte choice ≡ true) → allowed byte choice ≡ true
 so-allowed byte zero h = unfold allowed in refl
 so-allowed byte (suc c) h = core-allowed byte c ∙ h (omega arith)
@@ -215,3 +219,29 @@ allowed-says byte (suc c) = (λ e. (omega arith, sym (core-allowed byte c) ∙ e
 -- a byte permits no core above the eighth
 pub above-eight : (byte choice : ℕ) → byte < 2 ^ 8 → 8 < choice → permitted byte choice ≡ false
 above-eight byte choice h l = none-above byte 8 (div-eq-of-lt h) choice l
+
+-- ---- the byte of every core is the one that permits each
+
+-- bytes of m cores that permit the same cores are the same
+same-byte : (m a b : ℕ) → CoreByte m a → CoreByte m b → ((core : ℕ) → 1 ≤ core → core ≤ m → permitted a core ≡ permitted b core) → a ≡ b
+same-byte m a b p q h = p .weighs ∙ rw (each 1 (omega arith), each 2 (omega arith), each 3 (omega arith), each 4 (omega arith)) (sym (q .weighs))
+  where
+    each : (core : ℕ) → 1 ≤ core → permitted a core ≡ permitted b core
+    each core l = by-cases (decLt m core) (λ g. p .none-above core g ∙ sym (q .none-above core g)) (λ g. h core l (omega arith))
+
+pub every-byte : (m byte : ℕ) → 1 ≤ m → m ≤ 4 → CoreByte m byte → ((core : ℕ) → 1 ≤ core → core ≤ m → permitted byte core ≡ true) → byte ≡ everyCore m
+every-byte m byte some few b h =
+    same-byte m byte (everyCore m) b (fit-byte m (everyCore m) few (every-fits m some few)) (λ core l g. h core l g ∙ sym (every-permits m few core l g))
+
+-- any other byte bars one of them
+pub some-barred : (m byte : ℕ) → 1 ≤ m → m ≤ 4 → CoreByte m byte → (byte ≡ everyCore m → ⊥)
+    → (core : ℕ) × (1 ≤ core) × (core ≤ m) × (permitted byte core ≡ false)
+some-barred m byte some few b other =
+    let barred : ℕ → Bool = λ k. not (permitted byte (k + 1)) in
+    by-cases (ℕ-discrete (first barred m) 0)
+    (λ z. absurd (other (every-byte m byte some few b (λ core l g.
+    let e : core - 1 + 1 ≡ core = omega arith in
+    rw e at (not-false (permitted byte (core - 1 + 1)) (first-zero barred m z (core - 1) (omega arith)))))))
+    (λ n.
+    let i = first-is barred m (first barred m - 1) (omega arith) in
+    (first barred m - 1 + 1, omega arith, omega (arith, i .below), not-true (permitted byte (first barred m - 1 + 1)) (i .here)))

@@ -31,11 +31,13 @@ pub fn count(byte: u8) -> u32
     u8::count_ones(byte)
 }
 
-// The lowest core that a byte permits: its trailing zeros, plus 1.
+// The lowest core that a byte permits: its trailing zeros, plus 1; 0 if it permits none.
 pub fn lowest(byte: u8) -> u32
-    requires { ⌜ 0 < byte ⌝ }
     ensures { λ r. ⌜ r ≡ lowestPermitted byte 8 ⌝ }
 {
+    if byte == 0 {
+        return 0;
+    }
     u8::trailing_zeros(byte) + 1
 }
 

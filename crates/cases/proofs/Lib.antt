@@ -1,3 +1,4 @@
 pub mod BlockLaws
 pub mod LineLaws
 pub mod OrderLaws
+pub mod PieceLaws

@@ -7,6 +7,7 @@ use Rattle.refusal.specs.Causes.{numberOf, placeOf}
 use Rattle.refusal.specs.declared.Cause.{Cause}
 use Rattle.refusal.specs.declared.Outcome.{Outcome}
 use Rattle.refusal.specs.declared.Outcome.the-variants as outcome
+use Rattle.taskset.specs.declared.Fields.{Fields}
 use Rattle.taskset.specs.declared.TaskSet.{TaskSet}
 use Rattle.taskset.specs.declared.Reading.{Reading}
 use Rattle.planning.specs.Order.{planningOrder}
@@ -24,7 +25,7 @@ use Rattle.text.specs.Joined.{joined, fields}
 use Rattle.text.specs.Shown.{shown, Appended}
 use Rattle.text.specs.declared.Text.{Text}
 use Rattle.text.proofs.ClipLaws.{append-both, append-within, append-whole}
-use Rattle.cases.specs.Lines.{outcomeFields, slotFields, recordFields, sizeFields, taskNumbers, taskFields, tableLine, verdictNumber, planLine, coreLine, tickLine, recordLine, quickLine, ceilingLine}
+use Rattle.cases.specs.Lines.{outcomeFields, slotFields, recordFields, sizeFields, taskNumbers, taskFields, tableLine, verdictNumber, planLine, coreLine, tickLine, recordLine, quickLine, ceilingLine, boardFields, rowFields, setupLine}
 
 -- number and place
 module _ {t r : Text} {o : Outcome} where
@@ -104,3 +105,20 @@ module _ {t a b d : Text} (s : Ticked) {o : Outcome} (e : shown t ≡ []) (i : s
       → shown line ≡ recordLine s
   unfolding recordLine
   record-whole v w = append-whole e (append-both (append-both (append-both (append-both (rw (sym i) at p) q) u) v) w) (omega arith)
+
+-- a table in the new form
+pub board-made : {t a b d r : Text} (s : TaskSet) → Appended t (field (s .fields .n)) 21 a → Appended a (field (s .fields .m)) 21 b
+    → Appended b (field (s .fields .charge)) 21 d → Appended d (field (s .hyperperiod)) 21 r → Appended t (boardFields s) 84 r
+unfolding boardFields
+board-made s p q u v = append-both (append-both (append-both p q) u) v
+
+pub rows-made : {t a b r : Text} (f : Fields) → Appended t (fields (f .periods)) 336 a → Appended a (fields (f .budgets)) 336 b
+    → Appended b (fields (f .affinity)) 336 r → Appended t (rowFields f) 1008 r
+unfolding rowFields
+rows-made f p q u = append-both (append-both p q) u
+
+pub setup-whole : {t a b d line : Text} (r : Reading) {o : Outcome} → shown t ≡ [] → r .outcome ≡ o → Appended t (outcomeFields o) 41 a
+    → Appended a (boardFields (r .tasks)) 84 b → Appended b (rowFields (r .tasks .fields)) 1008 d → Appended d (ascii "\n") 1 line
+    → shown line ≡ setupLine r
+unfolding setupLine
+setup-whole r e i p q u v = append-whole e (append-both (append-both (append-both (rw (sym i) at p) q) u) v) (omega arith)

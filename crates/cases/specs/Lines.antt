@@ -1,12 +1,14 @@
 -- The lines of the cases, byte for byte: number and place of the refusal (0 0 if none), then the values, single spaces, a line feed.
 use Prim.Native.Nat.{ℕ, _+_}
 use mathlib.Core.List.{List, _++_}
+use lib.ListN.{take}
 use Rattle.numbers.specs.Rows.{row, entry}
 use Rattle.text.specs.Ascii.{ascii}
 use Rattle.text.specs.Decimal.{decimal, field}
 use Rattle.text.specs.Joined.{joined, fields}
 use Rattle.refusal.specs.Causes.{numberIn, placeIn}
 use Rattle.refusal.specs.declared.Outcome.{Outcome}
+use Rattle.taskset.specs.declared.Fields.{Fields}
 use Rattle.taskset.specs.declared.TaskSet.{TaskSet}
 use Rattle.taskset.specs.declared.Reading.{Reading}
 use Rattle.planning.specs.Order.{planningOrder}
@@ -17,6 +19,7 @@ use Rattle.planner.specs.declared.Verdict.the-variants.{All, Short, Spent, Refu
 use Rattle.quick.specs.declared.QuickPlan.{QuickPlan}
 use Rattle.ceiling.specs.declared.StepCeiling.{StepCeiling}
 use Rattle.edf.specs.declared.Slot.{Slot}
+use Rattle.transfer.specs.declared.Transfer.{Transfer}
 use Rattle.start.specs.declared.Started.{Started}
 use Rattle.runner.specs.declared.Core.{Core}
 use Rattle.runner.specs.declared.Ticked.{Ticked}
@@ -80,3 +83,22 @@ quickLine p = outcomeFields (p .outcome) ++ field (p .rejected) ++ fields (p .pl
 -- code 6: a step ceiling
 unfoldable pub ceilingLine : StepCeiling → List ℕ
 ceilingLine a = outcomeFields (a .outcome) ++ field (a .ceiling) ++ ascii "\n"
+
+-- n, m, the charge and the hyperperiod
+unfoldable pub boardFields : TaskSet → List ℕ
+boardFields t = field (t .fields .n) ++ field (t .fields .m) ++ field (t .fields .charge) ++ field (t .hyperperiod)
+
+-- periods, budgets and core bytes
+unfoldable pub rowFields : Fields → List ℕ
+rowFields f = fields (f .periods) ++ fields (f .budgets) ++ fields (f .affinity)
+
+-- code 7: a reading of the new form
+unfoldable pub setupLine : Reading → List ℕ
+setupLine r = outcomeFields (r .outcome) ++ boardFields (r .tasks) ++ rowFields (r .tasks .fields) ++ ascii "\n"
+
+-- codes 8 to 10: the start of the line, then every byte of the output in pieces of up to a hundred, of those that are left each time
+unfoldable pub answerStart : Transfer → List ℕ
+answerStart a = outcomeFields (a .outcome) ++ field (a .length)
+
+abbrev pub piece : List ℕ → List ℕ
+piece left = fields (take 100 left)

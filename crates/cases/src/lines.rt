@@ -1,4 +1,6 @@
 // The pieces that lines share.
+ghost use Prim.Native.Nat.{_*_};
+ghost use lib.ListN.{length};
 ghost use Rattle.text.specs.Shown.{Appended};
 ghost use Rattle.text.specs.Joined.{joined, fields};
 ghost use Rattle.cases.specs.Lines.{outcomeFields, slotFields, recordFields};
@@ -34,18 +36,25 @@ pub fn append_row(t: Text, row: [u32; 16]) -> Text
     longer
 }
 
-// Sixteen core numbers.
-pub fn append_cores(t: Text, cores: [u8; 16]) -> Text
-    ensures { λ r. ⌜ Appended t (fields cores) 336 r ⌝ }
+// Any count of bytes.
+pub fn append_numbers(t: Text, bytes: &[u8]) -> Text
+    ensures { λ r. ⌜ Appended t (fields (now (bytes .entry))) (21 * length (now (bytes .entry))) r ⌝ }
 {
     let mut longer = t;
-    let mut k = 0usize;
-    while k < 16 {
-        let next = text::append_field(longer, cores[k] as u64);
+    let mut k = 0;
+    while k < bytes.len() {
+        let next = text::append_field(longer, bytes[k] as u64);
         longer = next;
         k += 1;
     }
     longer
+}
+
+// Sixteen core numbers or core bytes.
+pub fn append_cores(t: Text, cores: [u8; 16]) -> Text
+    ensures { λ r. ⌜ Appended t (fields cores) 336 r ⌝ }
+{
+    append_numbers(t, &cores)
 }
 
 // Period, budget, ticks until release and ticks owed.

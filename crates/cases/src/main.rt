@@ -4,13 +4,17 @@ mod blocks;
 mod ceilings;
 mod cores;
 mod lines;
+mod outputs;
 mod plans;
 mod quicks;
 mod records;
+mod setups;
 mod tables;
 
 use refusal::Outcome;
 use runner::Core;
+use taskset::Fields;
+use transfer::Transfer;
 
 // Reads a block of exactly the buffer's length; false where there is none.
 fn read_exact(buffer: &mut [u8]) -> bool {
@@ -35,10 +39,33 @@ fn read_number() -> Number {
     }
 }
 
+// Sixteen numbers that were read, and whether their block is whole.
+struct Row {
+    whole: bool,
+    numbers: [u32; 16],
+}
+
+// Reads sixteen numbers, a block of 64 bytes.
+fn read_row() -> Row {
+    let mut bytes = [0u8; 64];
+    let whole = read_exact(&mut bytes);
+    let numbers = blocks::numbers_of(&bytes);
+    Row {
+        whole: whole,
+        numbers: numbers,
+    }
+}
+
 // Prints a table's line; false where the output fails.
 fn run_table(table: &[u8]) -> bool {
     let reading = stored::read_table(table);
     console::show(tables::table_line(reading)).whole
+}
+
+// Prints the line of a table in the new form; false where the output fails.
+fn run_setup(table: &[u8]) -> bool {
+    let reading = setup::read_setup(table);
+    console::show(setups::setup_line(reading)).whole
 }
 
 // Reads a limit and prints the plan's line; false where the case is not whole or the output fails.
@@ -69,12 +96,13 @@ fn run_ticks(core: Core, accepted: bool, count: u32) -> bool {
     let mut present = core;
     let mut left = count;
     while 0 < left {
-        let mut bytes = [0u8; 64];
-        if !read_exact(&mut bytes) {
+        let requests = read_row();
+        if !requests.whole {
             return false;
         }
         if accepted {
-            let ticked = present.tick(blocks::numbers_of(&bytes));
+            let numbers = requests.numbers;
+            let ticked = present.tick(numbers);
             if !console::show(cores::tick_line(ticked)).whole {
                 return false;
             }
@@ -132,8 +160,8 @@ fn run_record() -> bool {
     if !read_exact(&mut record) {
         return false;
     }
-    let mut requests = [0u8; 64];
-    if !read_exact(&mut requests) {
+    let requests = read_row();
+    if !requests.whole {
         return false;
     }
     let slots = records::slots_in(&record);
@@ -141,7 +169,83 @@ fn run_record() -> bool {
         slots: slots,
         charge: charge.value,
     };
-    console::show(records::record_line(core.tick(blocks::numbers_of(&requests)))).whole
+    let numbers = requests.numbers;
+    console::show(records::record_line(core.tick(numbers))).whole
+}
+
+// Prints every byte of an output and ends the line; false where the output fails.
+fn show_bytes(out: &[u8]) -> bool {
+    let mut at = 0;
+    while at < out.len() {
+        if !console::show(outputs::piece(&out[at..])).whole {
+            return false;
+        }
+        at += outputs::piece_length(out.len() - at);
+    }
+    let nothing = text::empty();
+    console::show(text::append_bytes(nothing, b"\n")).whole
+}
+
+// Prints the line of a call that stored a table; false where the output fails.
+fn show_stored(answer: Transfer, out: &[u8]) -> bool {
+    if !console::show(outputs::answer_start(answer)).whole {
+        return false;
+    }
+    show_bytes(out)
+}
+
+// Writes fields to a lent output and prints the line; false where the output fails.
+fn write_fields(f: Fields, out: &mut [u8]) -> bool {
+    let answer = transfer::write_setup(f, out);
+    show_stored(answer, out)
+}
+
+// Reads a lent output and writes fields to it; false where the case is not whole or the output fails.
+fn run_fields(f: Fields) -> bool {
+    let mut out = [0u8; 1024];
+    let block = blocks::read_block(&mut out);
+    if !block.whole {
+        return false;
+    }
+    let n = block.length;
+    write_fields(f, &mut out[..n])
+}
+
+// Reads fields and runs the writer; false where the case is not whole or the output fails.
+fn run_writer() -> bool {
+    let n = read_number();
+    let m = read_number();
+    let charge = read_number();
+    let periods = read_row();
+    let budgets = read_row();
+    let mut affinity = [0u8; 16];
+    let last = read_exact(&mut affinity);
+    if !(n.whole & m.whole & charge.whole & periods.whole & budgets.whole & last) {
+        return false;
+    }
+    let p = periods.numbers;
+    let b = budgets.numbers;
+    run_fields(outputs::fields_in(n.value, m.value, charge.value, p, b, affinity))
+}
+
+// Moves a table to a lent output, to the new form by code 9 and back by any other, and prints the line; false where the output fails.
+fn move_table(code: u8, table: &[u8], out: &mut [u8]) -> bool {
+    let answer = match code {
+        9 => transfer::to_new(table, out),
+        _ => transfer::to_old(table, out),
+    };
+    show_stored(answer, out)
+}
+
+// Reads a lent output and moves a table to it; false where the case is not whole or the output fails.
+fn run_move(code: u8, table: &[u8]) -> bool {
+    let mut out = [0u8; 1024];
+    let block = blocks::read_block(&mut out);
+    if !block.whole {
+        return false;
+    }
+    let n = block.length;
+    move_table(code, table, &mut out[..n])
 }
 
 // Runs a case whose first blocks were this table, this charge and these core bytes; false where there is no such code, the case is not
@@ -176,10 +280,12 @@ fn run_on_board(code: u8, table: &[u8]) -> bool {
     run_charged(code, table, charge.value)
 }
 
-// Runs a case whose first block was this table: only code 1 goes on without a charge. False where the case is not whole or fails.
+// Runs a case whose first block was this table: the codes named here go on without a charge. False where the case is not whole or fails.
 fn run_on(code: u8, table: &[u8]) -> bool {
     match code {
         1 => run_table(table),
+        7 => run_setup(table),
+        9 | 10 => run_move(code, table),
         _ => run_on_board(code, table),
     }
 }
@@ -195,10 +301,11 @@ fn run_tabled(code: u8) -> bool {
     run_on(code, &table[..n])
 }
 
-// Runs a case by its code: each but code 4, which begins with the charge, begins with a table. False where there is no such code, the case is not whole, or the output fails.
+// Runs a case by its code: each but codes 4 and 8, which begin with a number, begins with a table. False where there is no such code, the case is not whole, or the output fails.
 fn run_case(code: u8) -> bool {
     match code {
         4 => run_record(),
+        8 => run_writer(),
         _ => run_tabled(code),
     }
 }

@@ -24,7 +24,7 @@ use Rattle.refusal.proofs.ConditionLaws.{decides, accepts}
 use Rattle.refusal.specs.declared.Cause.{Cause}
 use Rattle.refusal.specs.declared.Outcome.{Outcome}
 use Rattle.refusal.specs.declared.Outcome.the-variants as outcome
-use Rattle.taskset.specs.Fields.{affinityAt}
+use Rattle.taskset.specs.Fields.{affinityAt, Free}
 use Rattle.taskset.specs.Limits.{Within}
 use Rattle.taskset.specs.declared.Fields.{Fields}
 use Rattle.taskset.specs.declared.Reading.{Reading}
@@ -43,7 +43,7 @@ use Rattle.planner.specs.declared.Verdict.the-variants.{Spent}
 use Rattle.planner.proofs.PlanLaws.{fields-are}
 use Rattle.planner.proofs.PromiseLaws.{demands-long, stated-order, order-permutation, promised}
 use Rattle.ceiling.specs.Ceiling.{coresOf, someTied, factorFor, sumOfProducts, plannedBytes, stepCeiling, ceilingBy, ceilingOf}
-use Rattle.ceiling.specs.Promise.{Free, permittedTo, Ceils, Promise, freeCeiling, Few}
+use Rattle.ceiling.specs.Promise.{permittedTo, Ceils, Promise, freeCeiling, Few}
 use Rattle.ceiling.specs.declared.StepCeiling.{StepCeiling}
 use Rattle.ceiling.proofs.SumLaws.{sums-cong, sums-mono, ceiling-grows, usual-ceilings}
 

@@ -1,14 +1,14 @@
 -- What is promised of the step ceiling, in the table's terms.
-use Prim.Native.Nat.{ℕ, pred, _+_, _≤_, _<_, min}
+use Prim.Native.Nat.{ℕ, pred, _+_, _≤_, min}
 use mathlib.Core.Path.{_≡_}
-use mathlib.Core.Bool.{true, false, cond}
+use mathlib.Core.Bool.{cond}
 use mathlib.Core.List.{List, [], _∷_}
 use mathlib.Core.Logic.{_⊎_, _≢_}
 use lib.ListN.{length}
 use Rattle.numbers.specs.Rows.{entry}
 use Rattle.numbers.specs.Sums.{sumFromOne, productFromOne}
 use Rattle.affinity.specs.Permitted.{permitted}
-use Rattle.taskset.specs.Fields.{affinityAt}
+use Rattle.taskset.specs.Fields.{affinityAt, Free, Tied}
 use Rattle.taskset.specs.declared.Fields.{Fields}
 use Rattle.stored.specs.Form.{fieldsOf, taskCount, coreCount}
 use Rattle.stored.specs.Limits.{Valid}
@@ -17,14 +17,6 @@ use Rattle.planner.specs.Plan.{planOf}
 use Rattle.planner.specs.Promise.{walkOf, StatedOrder}
 use Rattle.planner.specs.declared.Verdict.the-variants.{Spent}
 use Rattle.ceiling.specs.declared.StepCeiling.{StepCeiling}
-
--- every task permits every core
-abbrev pub Free : Fields → Type 0
-Free f = (k : ℕ) → k < f .n → (core : ℕ) → 1 ≤ core → core ≤ f .m → permitted (affinityAt f k) core ≡ true
-
--- some task does not permit some core
-abbrev pub Tied : Fields → Type 0
-Tied f = (k : ℕ) × (k < f .n) × (core : ℕ) × (1 ≤ core) × (core ≤ f .m) × (permitted (affinityAt f k) core ≡ false)
 
 -- how many cores the jth task in planning order permits
 abbrev pub permittedTo : Fields → ℕ → ℕ

@@ -10,12 +10,12 @@ use Rattle.text.specs.declared.Text.{Text}
 use Rattle.console.specs.Written.{Took}
 
 -- a text shows as many as its length says
-pub short-shown : (t : Text) → length (t .bytes) ≡ 2048 → t .length < 2048 → t .length ≡ length (shown t)
+pub short-shown : (t : Text) → length (t .bytes) ≡ 2560 → t .length < 2560 → t .length ≡ length (shown t)
 unfolding shown
 short-shown t l h = simp length-take (omega arith)
 
 -- or all that it has
-pub long-shown : (t : Text) → length (t .bytes) ≡ 2048 → 2048 ≤ t .length → 2048 ≡ length (shown t)
+pub long-shown : (t : Text) → length (t .bytes) ≡ 2560 → 2560 ≤ t .length → 2560 ≡ length (shown t)
 unfolding shown
 long-shown t l h = simp length-take (omega arith)
 

@@ -26,7 +26,7 @@ pub fn read_next(buffer: &mut [u8], n: usize) -> usize
     io::read_full(IN, &mut buffer[..n])
 }
 
-// How many bytes of a text the output took, and whether these are all that it shows.
+// How many bytes of a text an output took, and whether these are all that it shows.
 pub struct Written {
     pub taken: usize,
     pub whole: bool,
@@ -36,34 +36,34 @@ pub struct Written {
 fn shown_length(t: Text) -> usize
     ensures { λ r. ⌜ r ≡ length (shown t) ⌝ }
 {
-    if t.length < 2048 { t.length } else { 2048 }
+    if t.length < 2560 { t.length } else { 2560 }
 }
 
 // Writes the first `n` bytes with one call and returns how many the output took.
-fn write_once(bytes: &[u8], n: usize) -> usize
+fn write_once(output: i32, bytes: &[u8], n: usize) -> usize
     requires { ⌜ n ≤ length (now bytes) ⌝ }
     ensures { λ r. ⌜ r ≤ n ⌝ }
 {
     let front = &bytes[..n];
-    io::count(libc::write(OUT, front), front)
+    io::count(libc::write(output, front), front)
 }
 
 // The same for one byte.
-fn write_byte(b: u8) -> usize
+fn write_byte(output: i32, b: u8) -> usize
     ensures { λ r. ⌜ r ≤ 1 ⌝ }
 {
     let one = [b];
-    io::count(libc::write(OUT, &one), &one)
+    io::count(libc::write(output, &one), &one)
 }
 
 // Writes the first `n` bytes, byte by byte once a call took fewer, and returns how many the output took.
-fn write_bytes(bytes: &[u8], n: usize) -> usize
+fn write_bytes(output: i32, bytes: &[u8], n: usize) -> usize
     requires { ⌜ n ≤ length (now bytes) ⌝ }
     ensures { λ r. ⌜ r ≤ n ⌝ }
 {
-    let mut done = write_once(bytes, n);
+    let mut done = write_once(output, bytes, n);
     while done < n {
-        let put = write_byte(bytes[done]);
+        let put = write_byte(output, bytes[done]);
         if put == 0 {
             return done;
         }
@@ -72,16 +72,31 @@ fn write_bytes(bytes: &[u8], n: usize) -> usize
     done
 }
 
-// Writes what a text shows. That the output did not take all of it is said on standard error.
-pub fn show(t: Text) -> Written
-    ensures took { λ r. ⌜ Took (shown t) r ⌝ }
+// Writes what a text shows.
+fn put(output: i32, t: Text) -> Written
+    ensures { λ r. ⌜ Took (shown t) r ⌝ }
 {
     let n = shown_length(t);
     let bytes = t.bytes;
-    let taken = write_bytes(&bytes, n);
+    let taken = write_bytes(output, &bytes, n);
     let whole = taken == n;
-    if !whole {
+    Written { taken, whole }
+}
+
+// Writes what a text shows to standard output. That it did not take all of it is said on standard error.
+pub fn show(t: Text) -> Written
+    ensures took { λ r. ⌜ Took (shown t) r ⌝ }
+{
+    let written = put(OUT, t);
+    if !written.whole {
         io::write_all(ERROR, b"standard output failed\n");
     }
-    Written { taken, whole }
+    written
+}
+
+// Writes what a text shows to standard error.
+pub fn warn(t: Text) -> Written
+    ensures took { λ r. ⌜ Took (shown t) r ⌝ }
+{
+    put(ERROR, t)
 }

@@ -7,6 +7,9 @@ use lib.ListN.{length, take, drop}
 use lib.Seq.{take-at, drop-at}
 use native.Mathlib.Omega.{arith}
 use Rattle.numbers.proofs.BoundLaws.{less-exactly, not-less}
+use Rattle.numbers.proofs.RowLaws.{length-row}
+use Rattle.wire.specs.Bytes.{over}
+use Rattle.wire.proofs.LentLaws.{front-put}
 use Rattle.refusal.specs.Causes.{numberOf, placeOf, numberIn}
 use Rattle.refusal.specs.Tests.{_then_}
 use Rattle.refusal.specs.declared.Cause.{Cause}
@@ -16,32 +19,33 @@ use Rattle.refusal.specs.declared.Outcome.the-variants as outcome
 use Rattle.refusal.proofs.CauseLaws.{number-range}
 use Rattle.refusal.proofs.TestLaws.{accepted≢refused, outcome-cases, then-accepted, then-refused}
 use Rattle.refusal.proofs.ConditionLaws.{none-first, first-given, test-only, Tested, join, decides, accepts}
+use Rattle.taskset.specs.declared.Fields.{Fields}
 use Rattle.taskset.specs.declared.Reading.{Reading}
-use Rattle.stored.specs.Form.{taskCount, fieldsOf, everyAffinity, fieldsAlone}
-use Rattle.stored.specs.Tests.{tableOutcome, readingOf}
-use Rattle.stored.specs.Limits.{Valid}
-use Rattle.stored.proofs.TableLaws.{table-tested-alone, read-outcome}
-use Rattle.planner.specs.Plan.{planFor, planOf, verdictOutcome}
-use Rattle.planner.proofs.PlanLaws.{fields-are, plan-accepted}
+use Rattle.setup.specs.Form.{taskCount, setupFields}
+use Rattle.setup.specs.Tests.{setupOutcome, setupReading}
+use Rattle.setup.specs.Limits.{ValidSetup}
+use Rattle.setup.proofs.SetupLaws.{setup-tested, read-outcome, read-fields}
+use Rattle.planner.specs.Plan.{allocationOf, planFor, setupPlan, verdictOutcome}
+use Rattle.planner.proofs.PlanLaws.{setup-planned}
 use Rattle.planner.specs.Promise.{Promise}
-use Rattle.planner.proofs.PromiseLaws.{demands-long, plan-decides, plan-promised}
+use Rattle.planner.proofs.PromiseLaws.{demands-long, setup-outcome, setup-promised}
 use Rattle.planner.specs.declared.Allocation.{Allocation}
 use Rattle.planner.specs.declared.Verdict.{Verdict}
 use Rattle.planner.specs.declared.Verdict.the-variants.{All, Short, Spent, Refused}
 use Rattle.firmware.specs.Call.{bufferTest, callOutcome, codeOf, codeBy, bufferBy, codeFor, bufferAfter}
 use Rattle.firmware.specs.Service.{ValidCall, callConditions, Answers, Keeps}
 
--- Numbers 1 to 7, then 8, decide.
+-- The table's numbers, then 8, decide.
 module _ (s : List ℕ) (room : ℕ) where
-  call-tested : Tested (Valid s 0 (everyAffinity s) × (taskCount s ≤ room)) (callConditions s room) (callOutcome s room)
+  call-tested : Tested (ValidSetup s × (taskCount s ≤ room)) (callConditions s room) (callOutcome s room)
   unfolding callOutcome
   call-tested =
-      join (table-tested-alone s) (record {
+      join (setup-tested s) (record {
         reports = test-only Buffer refl (less-exactly room (taskCount s));
         valid = (λ n. not-less _ _ (n .0), λ h. (λ g. omega arith, tt));
       })
 
-  call-accepts : (callOutcome s room ≡ outcome.Accepted) ↔ (Valid s 0 (everyAffinity s) × (taskCount s ≤ room))
+  call-accepts : (callOutcome s room ≡ outcome.Accepted) ↔ (ValidSetup s × (taskCount s ≤ room))
   call-accepts = accepts (decides call-tested)
 
   call-valid : callOutcome s room ≡ outcome.Accepted → ValidCall s room
@@ -75,35 +79,44 @@ pub code-refused : {v : Verdict} {c : Cause} {x : ℕ} → x ≡ numberOf c → 
 code-refused e q = rw (q, e)
 
 -- The outcome is that of the tests of the reading, then of the buffer: where the reading is refused, the buffer's does not matter.
-pub read-well : (a b : Outcome) {o : Outcome} → o ≡ a then b → o ≡ outcome.Accepted → a ≡ outcome.Accepted
-read-well a b p q = then-accepted a b (sym p ∙ q) .0
+pub both-well : (a b : Outcome) {o : Outcome} → o ≡ a then b → o ≡ outcome.Accepted → (a ≡ outcome.Accepted) × (b ≡ outcome.Accepted)
+both-well a b p q = then-accepted a b (sym p ∙ q)
 
-module _ (s : List ℕ) (room : ℕ) {g : Reading} (e : g ≡ readingOf s 0 (everyAffinity s)) {fits : Outcome} (f : fits ≡ bufferTest (g .tasks .fields .n) room)
+module _ (s : List ℕ) (room : ℕ) {g : Reading} (e : g ≡ setupReading s) {fits : Outcome} (f : fits ≡ bufferTest (g .tasks .fields .n) room)
     {o : Outcome} (p : o ≡ g .outcome then fits) where
   count-is : g .outcome ≡ outcome.Accepted → g .tasks .fields .n ≡ taskCount s
-  unfolding fieldsOf
-  count-is q = ap (λ f. f .n) (fields-are s 0 (everyAffinity s) e q)
+  unfolding setupFields
+  count-is q = ap (λ f. f .n) (read-fields s e q)
 
   pub outcome-is : o ≡ callOutcome s room
   unfolding callOutcome
   outcome-is =
       ⊎-elim
-      (λ q. rw (← read-outcome s 0 (everyAffinity s) e, ← count-is q, ← f) p)
+      (λ q. rw (← read-outcome s e, ← count-is q, ← f) p)
       (λ q. p ∙ then-refused (g .outcome) fits (q .0) (q .1)
-      ∙ sym (then-refused (tableOutcome s 0 (everyAffinity s)) (bufferTest (taskCount s) room) (q .0) (sym (read-outcome s 0 (everyAffinity s) e) ∙ q .1)))
+      ∙ sym (then-refused (setupOutcome s) (bufferTest (taskCount s) room) (q .0) (sym (read-outcome s e) ∙ q .1)))
       (outcome-cases (g .outcome))
 
   -- what an accepted call is given
   module _ (q : o ≡ outcome.Accepted) where
-    pub call-few : g .tasks .fields .n ≤ 16
-    unfolding fieldsOf
-    call-few = rw (count-is (read-well _ _ p q)) (call-valid s room (sym outcome-is ∙ q) .table .fields .sizes .tasks .1)
+    call-few : g .tasks .fields .n ≤ 16
+    unfolding setupFields
+    call-few = rw (count-is (both-well _ _ p q .0)) (call-valid s room (sym outcome-is ∙ q) .table .fields .sizes .tasks .1)
 
-    pub call-room : g .tasks .fields .n ≤ room
-    call-room = rw (count-is (read-well _ _ p q)) (call-valid s room (sym outcome-is ∙ q) .fits)
+    call-room : g .tasks .fields .n ≤ room
+    call-room = rw (count-is (both-well _ _ p q .0)) (call-valid s room (sym outcome-is ∙ q) .fits)
+
+    -- so there are n core numbers, and room for them
+    pub call-fits : (g .tasks .fields .n ≤ 16) × (0 + g .tasks .fields .n ≤ room)
+    call-fits = (call-few, omega (arith, call-room))
+
+-- a plan has sixteen core numbers
+placement-long : (f : Fields) (limit : ℕ) → length (planFor f limit .placement) ≡ 16
+unfolding planFor allocationOf
+placement-long f limit = length-row 0 (f .n) _
 
 -- Code and buffer are those of the definitions.
-module _ (s : List ℕ) (limit : ℕ) (buffer : List ℕ) {g : Reading} (e : g ≡ readingOf s 0 (everyAffinity s)) {fits : Outcome}
+module _ (s : List ℕ) (limit : ℕ) (buffer : List ℕ) {g : Reading} (e : g ≡ setupReading s) {fits : Outcome}
     (f : fits ≡ bufferTest (g .tasks .fields .n) (length buffer)) {o : Outcome} (p : o ≡ g .outcome then fits) where
   same : o ≡ callOutcome s (length buffer)
   same = outcome-is s (length buffer) e f p
@@ -114,12 +127,15 @@ module _ (s : List ℕ) (limit : ℕ) (buffer : List ℕ) {g : Reading} (e : g �
   call-refused q h = (rw (← same, q) h, rw (← same, q))
 
   pub call-planned : o ≡ outcome.Accepted → {r : Allocation} → r ≡ planFor (g .tasks .fields) limit → {code : ℕ} {after : List ℕ} → code ≡ codeOf (r .verdict)
-      → after ≡ take (g .tasks .fields .n) (r .placement) ++ drop (g .tasks .fields .n) buffer
+      → after ≡ over buffer 0 (take (g .tasks .fields .n) (r .placement))
       → (code ≡ codeFor s limit (length buffer)) × (after ≡ bufferAfter s limit buffer)
   unfolding codeFor codeBy bufferAfter bufferBy
   call-planned q {r} w {after = after} h t =
-      let plan-is : r ≡ planOf s 0 (everyAffinity s) limit = plan-accepted s 0 (everyAffinity s) e limit (read-well _ _ p q) w in
-      let after-is : after ≡ take (taskCount s) (r .placement) ++ drop (taskCount s) buffer = rw (← count-is s (length buffer) e f p (read-well _ _ p q)) t in (
+      let plan-is : r ≡ setupPlan s limit = setup-planned s e limit (both-well _ _ p q .0) w in
+      let n : ℕ = g .tasks .fields .n in
+      let enough : n ≤ length (r .placement) = rw (w, placement-long (g .tasks .fields) limit) (call-fits s (length buffer) e f p q .0) in
+      let after-is : after ≡ take (taskCount s) (r .placement) ++ drop (taskCount s) buffer =
+      rw (← count-is s (length buffer) e f p (both-well _ _ p q .0)) (front-put buffer (r .placement) n enough t) in (
         rw (← same, q) (h ∙ ap (λ a. codeOf (a .verdict)) plan-is),
         rw (← same, q) (after-is ∙ ap (λ a. take (taskCount s) (a .placement) ++ drop (taskCount s) buffer) plan-is),
       )
@@ -145,14 +161,14 @@ module _ (s buffer : List ℕ) (limit : ℕ) where
     valid = call-valid s room q
 
     plan : Allocation
-    plan = planOf s 0 (everyAffinity s) limit
+    plan = setupPlan s limit
 
     after : List ℕ
     after = take (taskCount s) (plan .placement) ++ drop (taskCount s) buffer
 
     small : codeOf (plan .verdict) ≤ 2
     unfolding plan
-    small = code-planned (plan .verdict) (accepts (plan-decides s 0 (everyAffinity s) limit refl) .1 (valid .table))
+    small = code-planned (plan .verdict) (setup-outcome s limit ∙ accepts (decides (setup-tested s)) .1 (valid .table))
 
     planned-answers : Answers s buffer (codeOf (plan .verdict)) after
     planned-answers = record {
@@ -164,16 +180,16 @@ module _ (s buffer : List ℕ) (limit : ℕ) where
       untouched = λ g. absurd (omega (arith, small));
     }
 
-    promised : Promise (fieldsAlone s) limit plan
+    promised : Promise (setupFields s) limit plan
     unfolding plan
-    promised = plan-promised s 0 (everyAffinity s) limit refl .promise (valid .table)
+    promised = setup-promised s limit (valid .table)
 
     front-long : length (take (taskCount s) (plan .placement)) ≡ taskCount s
-    unfolding fieldsOf
-    front-long = promised .safe .feasible .whole ∙ demands-long (fieldsAlone s) (valid .table .fields)
+    unfolding setupFields
+    front-long = promised .safe .feasible .whole ∙ demands-long (setupFields s) (valid .table .fields)
 
     planned-keeps : Keeps s buffer limit (codeOf (plan .verdict)) after
-    unfolding fieldsOf after
+    unfolding setupFields after
     planned-keeps = record {
       spent = (λ x. promised .spent .0 (code-spent (plan .verdict) x), λ x. ap codeOf (promised .spent .1 x));
       all = λ n.

@@ -1,4 +1,4 @@
--- What the firmware entry returns and what it leaves in the plan buffer. It plans with charge 0 and every core permitted.
+-- What the firmware entry returns and what it leaves in the plan buffer. Its table is in the new form.
 use Prim.Native.Nat.{ℕ, _+_}
 use mathlib.Core.List.{List, _++_}
 use lib.Dec.{ltb}
@@ -8,9 +8,9 @@ use Rattle.refusal.specs.Tests.{_then_, refuseIf}
 use Rattle.refusal.specs.declared.Cause.the-variants.{Buffer}
 use Rattle.refusal.specs.declared.Outcome.{Outcome}
 use Rattle.refusal.specs.declared.Outcome.the-variants as outcome
-use Rattle.stored.specs.Form.{taskCount, everyAffinity}
-use Rattle.stored.specs.Tests.{tableOutcome}
-use Rattle.planner.specs.Plan.{planOf}
+use Rattle.setup.specs.Form.{taskCount}
+use Rattle.setup.specs.Tests.{setupOutcome}
+use Rattle.planner.specs.Plan.{setupPlan}
 use Rattle.planner.specs.declared.Allocation.{Allocation}
 use Rattle.planner.specs.declared.Verdict.{Verdict}
 use Rattle.planner.specs.declared.Verdict.the-variants.{All, Short, Spent, Refused}
@@ -19,9 +19,9 @@ use Rattle.planner.specs.declared.Verdict.the-variants.{All, Short, Spent, Refu
 abbrev pub bufferTest : ℕ → ℕ → Outcome
 bufferTest n room = refuseIf (ltb room n) Buffer
 
--- numbers 1 to 7 of the table, then 8
+-- the table's numbers, then 8
 unfoldable pub callOutcome : List ℕ → ℕ → Outcome
-callOutcome s room = tableOutcome s 0 (everyAffinity s) then bufferTest (taskCount s) room
+callOutcome s room = setupOutcome s then bufferTest (taskCount s) room
 
 -- the number that the firmware is given: 0 all, 1 short, 2 spent, or 100 plus the refusal number
 abbrev pub codeOf : Verdict → ℕ
@@ -42,8 +42,8 @@ bufferBy outcome.Accepted n p buffer = take n (p .placement) ++ drop n buffer
 
 -- what the entry returns for a table, a step limit and a buffer of this length
 unfoldable pub codeFor : List ℕ → ℕ → ℕ → ℕ
-codeFor s limit room = codeBy (callOutcome s room) (planOf s 0 (everyAffinity s) limit)
+codeFor s limit room = codeBy (callOutcome s room) (setupPlan s limit)
 
 -- every byte of the buffer at exit
 unfoldable pub bufferAfter : List ℕ → ℕ → List ℕ → List ℕ
-bufferAfter s limit buffer = bufferBy (callOutcome s (length buffer)) (taskCount s) (planOf s 0 (everyAffinity s) limit) buffer
+bufferAfter s limit buffer = bufferBy (callOutcome s (length buffer)) (taskCount s) (setupPlan s limit) buffer

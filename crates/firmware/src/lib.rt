@@ -1,8 +1,7 @@
 // The plain entry by which the controller's C firmware calls the planner.
 ghost use mathlib.Core.Path.{_≡_};
 ghost use Prim.Native.Nat.{_≤_};
-ghost use mathlib.Core.List.{_++_};
-ghost use lib.ListN.{length, take, drop};
+ghost use lib.ListN.{length};
 ghost use Rattle.firmware.specs.Call.{bufferTest, codeOf, codeFor, bufferAfter};
 ghost use Rattle.firmware.specs.Service.{Answers, Keeps};
 use planner::Verdict;
@@ -28,24 +27,12 @@ fn code(verdict: Verdict) -> u32
     }
 }
 
-// Writes the first `n` core numbers to the front of the buffer and leaves what follows.
-fn write_front(buffer: &mut [u8], cores: [u8; 16], n: usize)
-    requires { ⌜ (n ≤ 16) × (n ≤ length (now buffer)) ⌝ }
-    ensures { λ _. ⌜ now (buffer .exit) ≡ take n cores ++ drop n (now (buffer .entry)) ⌝ }
-{
-    let mut k = 0;
-    while k < n {
-        buffer[k] = cores[k];
-        k += 1;
-    }
-}
-
-// Plans a stored table and writes the plan; the entry's work, in a function of its own since the entry then takes less stack.
+// Plans a table in the new form and writes the plan; the entry's work, in a function of its own since the entry then takes less stack.
 fn plan_into(table: &[u8], limit: u32, plan: &mut [u8]) -> u32
     ensures code { λ r. ⌜ r ≡ codeFor (now (table .entry)) limit (length (now (plan .entry))) ⌝ }
     ensures buffer { λ r. ⌜ now (plan .exit) ≡ bufferAfter (now (table .entry)) limit (now (plan .entry)) ⌝ }
 {
-    let reading = stored::read_table(table);
+    let reading = setup::read_setup(table);
     let n = reading.tasks.fields.n;
     let read = reading.outcome;
     let fits = buffer_test(n, plan.len());
@@ -55,14 +42,14 @@ fn plan_into(table: &[u8], limit: u32, plan: &mut [u8]) -> u32
         Outcome::Accepted => {
             let answer = planner::plan_tasks(reading.tasks, limit);
             let cores = answer.placement;
-            write_front(plan, cores, n);
+            wire::put_bytes(plan, 0, cores, n);
             let verdict = answer.verdict;
             code(verdict)
         }
     }
 }
 
-// Plans a stored table in at most `limit` steps: 0 all, 1 short, 2 spent, or 100 plus the refusal number.
+// Plans a table in the new form in at most `limit` steps: 0 all, 1 short, 2 spent, or 100 plus the refusal number.
 // The n core numbers go to the front of `plan`; a refusal writes nothing.
 #[no_mangle]
 pub extern "C" fn millplan_plan(table: &[u8], limit: u32, plan: &mut [u8]) -> u32

@@ -6,6 +6,7 @@ use mathlib.Core.Logic.{_↔_}
 use Rattle.numbers.specs.Rows.{entry}
 use Rattle.numbers.proofs.RowLaws.{getD-row}
 use Rattle.refusal.specs.Conditions.{Gives}
+use Rattle.refusal.proofs.ConditionLaws.{decides}
 use Rattle.taskset.specs.Fields.{periodAt, budgetAt}
 use Rattle.taskset.specs.Demands.{hyperperiodOf, demandOf}
 use Rattle.taskset.specs.Reading.{taskSetOf}
@@ -13,17 +14,22 @@ use Rattle.taskset.proofs.DemandLaws.{demand-exact}
 use Rattle.stored.specs.Form.{fieldsOf, taskCount, coreCount}
 use Rattle.stored.specs.Limits.{Valid}
 use Rattle.stored.proofs.TableLaws.{read-alone, read-reads}
-use Rattle.planner.proofs.PromiseLaws.{plan-decides, plan-promised}
-use Rattle.quick.proofs.PromiseLaws.{quick-decides, quick-answered}
+use Rattle.setup.specs.Form.{setupFields}
+use Rattle.setup.specs.Tests.{setupOutcome}
+use Rattle.setup.proofs.SetupLaws as setup
+use Rattle.planner.proofs.PromiseLaws.{plan-decides, plan-promised, setup-outcome, setup-promised}
+use Rattle.quick.specs.Quick.{setupQuick}
+use Rattle.quick.proofs.PromiseLaws.{quick-outcome, quick-decides, quick-answered}
 use Rattle.ceiling.proofs.PromiseLaws.{ceiling-decides, ceiling-promise, ceiling-refused, few-unspent}
 use Rattle.firmware.proofs.CallLaws.{call-answers, refusal-writes-nothing}
 use Rattle.runner.proofs.AnswerLaws.{answer-decides, answer-refused}
 use Rattle.start.specs.Starts.{startOf, loadOf}
 use Rattle.start.proofs.StartLaws.{start-decides, start-promised}
-use Rattle.guarantees.specs.Demands.{DemandOne, DemandTwo, CeilingDemand, DemandThree, ValidPlacement, exactLoad}
+use Rattle.guarantees.specs.Demands.{DemandOne, DemandTwo, DemandTwoSetup, CeilingDemand, DemandThree, ValidPlacement, exactLoad}
 use Rattle.guarantees.proofs.LoadLaws.{started-load}
 
 pub demand-one : DemandOne
+unfolding setupQuick
 demand-one = record {
   within = λ table charge affinity limit v. plan-decides table charge affinity limit refl .accepted .1 v;
   outside = λ table charge affinity limit. plan-decides table charge affinity limit refl .refused;
@@ -32,8 +38,13 @@ demand-one = record {
   reader = λ table. read-alone table refl;
   fresh = λ table charge affinity placement core. start-decides table charge affinity placement core refl;
   tick = answer-decides;
+  setup = λ table. setup.read-decides table refl;
+  program = λ table limit. rw (setup-outcome table limit) (decides (setup.setup-tested table));
+  quick-program = λ table. rw (quick-outcome (setupOutcome table) (setupFields table)) (decides (setup.setup-tested table));
   entry = call-answers;
   reads = λ table charge affinity. read-reads table charge affinity refl;
+  setup-reads = λ table. setup.read-reads table refl;
+  setup-stored = λ table. setup.read-stored table refl;
   plans = λ table charge affinity limit. plan-promised table charge affinity limit refl;
   quicks = λ table charge affinity. quick-answered table charge affinity refl .refused;
   ceilings = λ table charge affinity. ceiling-refused table charge affinity refl;
@@ -44,6 +55,9 @@ demand-one = record {
 
 pub demand-two : DemandTwo
 demand-two table charge affinity limit v = plan-promised table charge affinity limit refl .promise v
+
+pub demand-two-setup : DemandTwoSetup
+demand-two-setup = setup-promised
 
 pub ceiling-demand : CeilingDemand
 ceiling-demand = record {

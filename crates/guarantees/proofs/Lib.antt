@@ -2,4 +2,5 @@ pub mod LoadLaws
 pub mod DemandLaws
 pub mod ChainLaws
 pub mod UnchargedLaws
+pub mod FormLaws
 pub mod RowLaws

@@ -4,7 +4,7 @@ use mathlib.Core.Path.{_≡_, refl, sym, _∙_, ap}
 use mathlib.Core.List.{List}
 use Rattle.affinity.proofs.PermittedLaws.{every-permits}
 use Rattle.refusal.proofs.ConditionLaws.{decides}
-use Rattle.taskset.specs.Fields.{periodAt, budgetAt, costAt}
+use Rattle.taskset.specs.Fields.{periodAt, budgetAt, costAt, Free}
 use Rattle.taskset.specs.Demands.{hyperperiodOf, demandOf}
 use Rattle.taskset.specs.Limits.{Sized}
 use Rattle.taskset.specs.Reading.{taskSetOf}
@@ -17,7 +17,6 @@ use Rattle.planner.proofs.PromiseLaws.{plan-outcome, plan-promised}
 use Rattle.quick.specs.Quick.{quickOf}
 use Rattle.quick.proofs.PromiseLaws.{quick-outcome}
 use Rattle.ceiling.specs.Ceiling.{ceilingOf}
-use Rattle.ceiling.specs.Promise.{Free}
 use Rattle.ceiling.proofs.PromiseLaws.{ceiling-outcome, ceiling-promise}
 use Rattle.edf.specs.Tick.{owedFor}
 use Rattle.edf.proofs.DemandLaws.{owed-uncharged}

@@ -12,23 +12,26 @@ use Rattle.affinity.specs.Permitted.{permitted}
 use Rattle.refusal.specs.Causes.{numberIn}
 use Rattle.refusal.specs.Conditions.{First, Fails, Gives, Decides}
 use Rattle.refusal.specs.declared.Outcome.the-variants.{Accepted}
-use Rattle.taskset.specs.Fields.{periodAt, budgetAt, costAt}
+use Rattle.taskset.specs.Fields.{periodAt, budgetAt, costAt, Free}
 use Rattle.taskset.specs.Demands.{hyperperiodOf, demandOf}
 use Rattle.taskset.specs.Reading.{taskSetOf}
 use Rattle.taskset.specs.Limits.{Sized, chargeAbove, budgetOutside, costAbove, rowOther, affinityUnfit, Reads}
 use Rattle.stored.specs.Form.{fieldsOf, everyAffinity, taskCount, coreCount}
 use Rattle.stored.specs.Tests.{readingOf}
 use Rattle.stored.specs.Limits.{Valid, conditions, tableConditions}
+use Rattle.setup.specs.Form.{setupFields}
+use Rattle.setup.specs.Tests.{setupReading}
+use Rattle.setup.specs.Limits.{ValidSetup, setupConditions, ReadsSetup}
 use Rattle.allocation.specs.EntryRule.{Twins}
 use Rattle.allocation.specs.TableOrder.{inPlanningOrder}
-use Rattle.planner.specs.Plan.{planOf, verdictOutcome}
+use Rattle.planner.specs.Plan.{planOf, setupPlan, verdictOutcome}
 use Rattle.planner.specs.Promise.{choicesOf, Safe, Promise, WalkRule, Plans}
 use Rattle.planner.specs.Problem.{tableProblem, orderOf}
 use Rattle.planner.specs.declared.Verdict.the-variants.{All, Spent}
-use Rattle.quick.specs.Quick.{quickOf}
+use Rattle.quick.specs.Quick.{quickOf, setupQuick}
 use Rattle.quick.specs.Promise.{Lowest, Descent, RefusedQuick}
 use Rattle.ceiling.specs.Ceiling.{ceilingOf}
-use Rattle.ceiling.specs.Promise.{Free, Ceils, Few}
+use Rattle.ceiling.specs.Promise.{Ceils, Few}
 use Rattle.firmware.specs.Call.{codeFor, bufferAfter}
 use Rattle.firmware.specs.Service.{Answers}
 use Rattle.edf.specs.Fresh.{Tasks, budget}
@@ -49,16 +52,23 @@ pub record DemandOne : Type 0 where
   -- A call outside its limits is refused with the number and place that the paper gives: those of the first condition that holds, and never otherwise.
   pub outside : (table : List ℕ) (charge : ℕ) (affinity : List ℕ) (limit number place : ℕ) → 1 ≤ number
       → Gives (verdictOutcome (planOf table charge affinity limit .verdict)) number place ↔ First (conditions table charge affinity) number place
-  -- So are the calls of the quick planner, of the step ceiling, of the reader, of a fresh core, of a tick (its answer r is any that the definition gives) and of the firmware.
+  -- So are the calls of the quick planner, of the step ceiling, of the reader, of a fresh core and of a tick (its answer r is any that the definition gives).
   pub quick : (table : List ℕ) (charge : ℕ) (affinity : List ℕ) → Decides (Valid table charge affinity) (conditions table charge affinity) (quickOf table charge affinity .outcome)
   pub ceiling : (table : List ℕ) (charge : ℕ) (affinity : List ℕ) → Decides (Valid table charge affinity) (conditions table charge affinity) (ceilingOf table charge affinity .outcome)
   pub reader : (table : List ℕ) → Decides (Valid table 0 (everyAffinity table)) (tableConditions table) (readingOf table 0 (everyAffinity table) .outcome)
   pub fresh : (table : List ℕ) (charge : ℕ) (affinity placement : List ℕ) (core : ℕ) → Decides (ValidStart table charge affinity placement core) (startConditions table charge affinity placement core) (startOf table charge affinity placement core .outcome)
   pub tick : (core : Core) (requests : List ℕ) (r : Ticked) → tickAnswer r ≡ tickOf (core .charge) (core .slots) requests
       → Decides (ValidRecord (core .charge) (core .slots)) (recordConditions (core .charge) (core .slots)) (r .outcome)
+  -- Of a table in the new form: so are the calls of its reader, of the two programs, which print these plans, and of the firmware.
+  pub setup : (table : List ℕ) → Decides (ValidSetup table) (setupConditions table) (setupReading table .outcome)
+  pub program : (table : List ℕ) (limit : ℕ) → Decides (ValidSetup table) (setupConditions table) (verdictOutcome (setupPlan table limit .verdict))
+  pub quick-program : (table : List ℕ) → Decides (ValidSetup table) (setupConditions table) (setupQuick table .outcome)
   pub entry : (table buffer : List ℕ) (limit : ℕ) → Answers table buffer (codeFor table limit (length buffer)) (bufferAfter table limit buffer)
+  -- What its reader accepts stands in the bytes, each part at its place, and is 0 beyond n.
+  pub setup-stored : (table : List ℕ) → ReadsSetup table (setupReading table)
   -- A refused reading, plan, quick plan, step ceiling or fresh core is zeros, each with its own promise; a refused tick hands back its record, run 0 and late 0.
   pub reads : (table : List ℕ) (charge : ℕ) (affinity : List ℕ) → Reads (readingOf table charge affinity)
+  pub setup-reads : (table : List ℕ) → Reads (setupReading table)
   pub plans : (table : List ℕ) (charge : ℕ) (affinity : List ℕ) (limit : ℕ) → Plans table charge affinity limit (planOf table charge affinity limit)
   pub quicks : (table : List ℕ) (charge : ℕ) (affinity : List ℕ) → numberIn (quickOf table charge affinity .outcome) ≢ 0 → RefusedQuick (quickOf table charge affinity)
   pub ceilings : (table : List ℕ) (charge : ℕ) (affinity : List ℕ) → numberIn (ceilingOf table charge affinity .outcome) ≢ 0 → ceilingOf table charge affinity .ceiling ≡ 0
@@ -71,6 +81,10 @@ pub record DemandOne : Type 0 where
 -- Demand 2 is the planner's promise, sentence by sentence, for every valid table, charge and row of core bytes and every step limit.
 abbrev pub DemandTwo : Type 0
 DemandTwo = (table : List ℕ) (charge : ℕ) (affinity : List ℕ) (limit : ℕ) → Valid table charge affinity → Promise (fieldsOf table charge affinity) limit (planOf table charge affinity limit)
+
+-- The same for every valid table in the new form, of the plan that the program prints and the firmware's entry returns.
+abbrev pub DemandTwoSetup : Type 0
+DemandTwoSetup = (table : List ℕ) (limit : ℕ) → ValidSetup table → Promise (setupFields table) limit (setupPlan table limit)
 
 -- the exact load that a placement puts on a core: the sum of the demands of the tasks whose entry is that core
 abbrev pub exactLoad : List ℕ → ℕ → List ℕ → List ℕ → ℕ → ℕ

@@ -1,3 +1,4 @@
 pub mod Demands
 pub mod Chain
+pub mod Forms
 pub mod Rows

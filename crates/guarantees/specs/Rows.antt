@@ -9,6 +9,11 @@ use Rattle.refusal.specs.Conditions.{Gives}
 use Rattle.refusal.specs.declared.Outcome.the-variants.{Accepted}
 use Rattle.stored.specs.Form.{tableOf, everyAffinity}
 use Rattle.stored.specs.Tests.{readingOf}
+use Rattle.taskset.specs.declared.Fields.{Fields}
+use Rattle.setup.specs.Form.{setupOf}
+use Rattle.setup.specs.Tests.{setupReading}
+use Rattle.transfer.specs.Calls.{writeAnswer, writeOutput, newAnswer, newOutput, oldAnswer, oldOutput}
+use Rattle.transfer.specs.declared.Transfer.{Transfer}
 use Rattle.planner.specs.Plan.{planOf, verdictOutcome}
 use Rattle.planner.specs.declared.Verdict.{Verdict}
 use Rattle.planner.specs.declared.Verdict.the-variants.{All, Short, Spent}
@@ -23,10 +28,28 @@ use Rattle.start.specs.Starts.{startOf}
 use Rattle.text.specs.Ascii.{ascii}
 use Rattle.report.specs.Output.{outputOf}
 
+-- A call that stores a table in a lent output: the writer of the new form, the move from the old form, and the move back.
+pub data Storing : Type 0 where
+  write : Fields → Storing
+  toNew : List ℕ → Storing
+  toOld : List ℕ → Storing
+
+-- its answer for an output of this length, and the output at exit
+abbrev pub answerTo : Storing → ℕ → Transfer
+answerTo (write fields) room = writeAnswer fields room
+answerTo (toNew table) room = newAnswer table room
+answerTo (toOld table) room = oldAnswer table room
+
+abbrev pub outAfter : Storing → List ℕ → List ℕ
+outAfter (write fields) out = writeOutput fields out
+outAfter (toNew table) out = newOutput table out
+outAfter (toOld table) out = oldOutput table out
+
 -- A row: a table's hyperperiod; a plan with its verdict, cores, left-out demand and steps; a quick plan with its cores and left-out demand;
 -- a step ceiling; a refusal with its number and place; a fresh core's slots, or its refusal; the tasks run by the ticks of a fresh core; one tick of
--- given slots, with the task run, the late task and the next slots, or its refusal's place; the whole output of the program, and that of the quick
--- one. Last, a row of these on a board with a charge, and one with core bytes.
+-- given slots, with the task run, the late task and the next slots, or its refusal's place. Of tables in the new form: their fields and hyperperiod, or
+-- the refusal of the reader; a stored table's length and the output, or the refusal, which leaves the output; the whole output of the program, and
+-- that of the quick one. Last, a row of the calls before these on a board with a charge, and one with core bytes.
 pub data Row : Type 0 where
   frames : List ℕ → ℕ → Row
   plans : List ℕ → ℕ → Verdict → List ℕ → ℕ → ℕ → Row
@@ -38,12 +61,16 @@ pub data Row : Type 0 where
   ticks : List ℕ → List ℕ → ℕ → List (List ℕ) → List ℕ → Row
   tickOnce : List Slot → List ℕ → ℕ → ℕ → List Slot → Row
   refusesTick : List Slot → ℕ → Row
+  readsNew : List ℕ → Fields → ℕ → Row
+  refusesNew : List ℕ → ℕ → ℕ → Row
+  stores : Storing → List ℕ → ℕ → List ℕ → Row
+  refusesStore : Storing → List ℕ → ℕ → ℕ → Row
   prints : List ℕ → String → Row
   printsQuick : List ℕ → String → Row
   charged : ℕ → Row → Row
   tied : List ℕ → Row → Row
 
--- what a row says where this is the board's charge, and these are a table's core bytes; the programs go by charge 0 and permit every core
+-- what a row says where this is the board's charge, and these are a table's core bytes; a table in the new form has its own
 abbrev pub Holds : ℕ → (List ℕ → List ℕ) → Row → Type 0
 Holds charge bytes (frames table hyperperiod) = readingOf table charge (bytes table) .tasks .hyperperiod ≡ hyperperiod
 Holds charge bytes (plans table limit verdict cores rejected steps) =
@@ -60,6 +87,12 @@ Holds charge bytes (ticks table placement core requests ran) =
 Holds charge bytes (tickOnce slots requests run late next) =
     tick charge slots requests ≡ record { refusal = 0; place = 0; charge = charge; slots = next; run = run; late = late }
 Holds charge bytes (refusesTick slots place) = tick charge slots [] ≡ record { refusal = 12; place = place; charge = charge; slots = slots; run = 0; late = 0 }
+Holds charge bytes (readsNew table fields hyperperiod) =
+    (setupReading table .outcome ≡ Accepted) × (setupReading table .tasks .fields ≡ fields) × (setupReading table .tasks .hyperperiod ≡ hyperperiod)
+Holds charge bytes (refusesNew table number place) = Gives (setupReading table .outcome) number place
+Holds charge bytes (stores call out size after) = (answerTo call (length out) ≡ record { outcome = Accepted; length = size }) × (outAfter call out ≡ after)
+Holds charge bytes (refusesStore call out number place) =
+    Gives (answerTo call (length out) .outcome) number place × (answerTo call (length out) .length ≡ 0) × (outAfter call out ≡ out)
 Holds charge bytes (prints table output) = outputOf table ≡ ascii output
 Holds charge bytes (printsQuick table output) = quickOutputOf table ≡ ascii output
 Holds charge bytes (charged own row) = Holds own bytes row
@@ -87,9 +120,9 @@ rowD = tableOf 2 (10 ∷ 10 ∷ 10 ∷ 10 ∷ 10 ∷ []) (5 ∷ 5 ∷ 4 ∷ 3 �
 abbrev pub packed : List ℕ
 packed = tableOf 2 (10 ∷ 10 ∷ 10 ∷ 10 ∷ 10 ∷ 10 ∷ []) (5 ∷ 4 ∷ 3 ∷ 3 ∷ 3 ∷ 2 ∷ [])
 
--- one whose weights are no times: two tasks of weights 4 and 7 on a core that holds 10
+-- one in the new form, whose weights are no times: two tasks of weights 4 and 7 on a core that holds 10
 abbrev pub crowded : List ℕ
-crowded = tableOf 1 (5 ∷ 10 ∷ []) (2 ∷ 7 ∷ [])
+crowded = setupOf 1 0 (5 ∷ 10 ∷ []) (2 ∷ 7 ∷ []) (1 ∷ 1 ∷ [])
 
 -- five tasks of which no two fit together, on four cores; seven tasks on three
 abbrev pub five : List ℕ
@@ -127,6 +160,76 @@ three = tableOf 3 (4 ∷ 4 ∷ 4 ∷ []) (4 ∷ 4 ∷ 4 ∷ [])
 abbrev pub loose : ℕ → ℕ → ℕ → List ℕ
 loose a b c = tableOf 2 (10 ∷ 10 ∷ 10 ∷ []) (a ∷ b ∷ c ∷ [])
 
+-- the listing's table in both forms, byte by byte
+abbrev pub oldListing : List ℕ
+oldListing = 3 ∷ 1 ∷ 10 ∷ 0 ∷ 0 ∷ 0 ∷ 10 ∷ 0 ∷ 0 ∷ 0 ∷ 10 ∷ 0 ∷ 0 ∷ 0 ∷ 7 ∷ 0 ∷ 0 ∷ 0 ∷ 6 ∷ 0 ∷ 0 ∷ 0 ∷ 4 ∷ 0 ∷ 0 ∷ 0 ∷ []
+
+abbrev pub newListing : List ℕ
+newListing =
+    0 ∷ 3 ∷ 1 ∷ 0 ∷ 10 ∷ 0 ∷ 0 ∷ 0 ∷ 10 ∷ 0 ∷ 0 ∷ 0 ∷ 10 ∷ 0 ∷ 0 ∷ 0 ∷ 7 ∷ 0 ∷ 0 ∷ 0 ∷ 6 ∷ 0 ∷ 0 ∷ 0 ∷ 4 ∷ 0 ∷ 0 ∷ 0 ∷ 1 ∷ 1 ∷ 1 ∷ []
+
+-- the same for three tasks on two cores with a charge of 4, each part other than the rest: periods 10, 20 and 300, times 5, 8 and 140, and
+-- core bytes for the second core, for both and for the first
+abbrev pub board : List ℕ
+board =
+    0 ∷ 3 ∷ 2 ∷ 4 ∷ 10 ∷ 0 ∷ 0 ∷ 0 ∷ 20 ∷ 0 ∷ 0 ∷ 0 ∷ 44 ∷ 1 ∷ 0 ∷ 0 ∷ 5 ∷ 0 ∷ 0 ∷ 0 ∷ 8 ∷ 0 ∷ 0 ∷ 0 ∷ 140 ∷ 0 ∷ 0 ∷ 0 ∷ 2 ∷ 3 ∷ 1 ∷ []
+
+-- these numbers as fields, with this number of core bytes and this behind each row of three
+abbrev pub boardFields : ℕ → List ℕ → Fields
+boardFields given rest = record {
+  n = 3;
+  m = 2;
+  charge = 4;
+  periods = 10 ∷ 20 ∷ 300 ∷ rest;
+  budgets = 5 ∷ 8 ∷ 140 ∷ rest;
+  affinity = 2 ∷ 3 ∷ 1 ∷ rest;
+  given = given;
+}
+
+-- Tables in lent outputs. The listing moved to the new form and back, and three tasks written, whatever stands beyond the third; each table stands in
+-- front, and the bytes behind it are kept. On two cores a task gets the byte of both. Refused, with the output left as it was: to be moved back, a task
+-- that may use the first of two cores alone; a charge, where there is no room either; a table with its own fault, before both; one byte too little
+-- room for each call; an old table to be moved back, and a new one to be moved on; fields that are no bytes, which are not cut to bytes first; a byte
+-- with a bit above core m, before the room.
+unfoldable pub moves : List Row
+moves =
+    stores (toNew oldListing) (replicate 33 9) 31 (newListing ++ 9 ∷ 9 ∷ [])
+    ∷ stores (toOld newListing) (replicate 27 9) 26 (oldListing ++ 9 ∷ [])
+    ∷ stores (toNew (1 ∷ 2 ∷ 16 ∷ 39 ∷ 0 ∷ 0 ∷ 7 ∷ 1 ∷ 0 ∷ 0 ∷ [])) (replicate 13 9) 13 (0 ∷ 1 ∷ 2 ∷ 0 ∷ 16 ∷ 39 ∷ 0 ∷ 0 ∷ 7 ∷ 1 ∷ 0 ∷ 0 ∷ 3 ∷ [])
+    ∷ stores (write (boardFields 0 (replicate 13 255))) (replicate 33 9) 31 (board ++ 9 ∷ 9 ∷ [])
+    ∷ refusesStore (toOld (0 ∷ 1 ∷ 2 ∷ 0 ∷ 10 ∷ 0 ∷ 0 ∷ 0 ∷ 7 ∷ 0 ∷ 0 ∷ 0 ∷ 1 ∷ [])) (replicate 10 9) 18 0
+    ∷ refusesStore (toOld (0 ∷ 1 ∷ 1 ∷ 1 ∷ 10 ∷ 0 ∷ 0 ∷ 0 ∷ 7 ∷ 0 ∷ 0 ∷ 0 ∷ 1 ∷ [])) [] 18 0
+    ∷ refusesStore (toOld (setupOf 2 1 (1000 ∷ 1001 ∷ []) (1 ∷ 1 ∷ []) (3 ∷ 1 ∷ []))) [] 7 2
+    ∷ refusesStore (toOld newListing) (replicate 25 9) 8 0
+    ∷ refusesStore (toNew oldListing) (replicate 30 9) 8 0
+    ∷ refusesStore (write (boardFields 0 [])) (replicate 30 9) 8 0
+    ∷ refusesStore (toOld oldListing) (replicate 26 9) 17 0
+    ∷ refusesStore (toNew newListing) (replicate 31 9) 2 0
+    ∷ refusesStore (write (record { n = 259; m = 1; charge = 0; periods = 10 ∷ []; budgets = 7 ∷ []; affinity = 1 ∷ []; given = 1 })) [] 2 0
+    ∷ refusesStore (write (record { n = 1; m = 1; charge = 256; periods = 10 ∷ []; budgets = 7 ∷ []; affinity = 1 ∷ []; given = 1 })) [] 13 0
+    ∷ refusesStore (write (record { n = 2; m = 1; charge = 3; periods = 10 ∷ 10 ∷ []; budgets = 7 ∷ 7 ∷ []; affinity = 1 ∷ 2 ∷ []; given = 1 })) [] 15 2
+    ∷ []
+
+-- The new form, read and printed. Three tasks of which each number stands in its own place. Fewer than 4 bytes are refused before the first byte is
+-- looked at, an old table by its first byte, before a size; a table of the old form's length by its length; a charge after that and before a
+-- period; a byte with a bit above core m for its task. Both programs go by the charge and the core bytes of the table.
+unfoldable pub setups : List Row
+setups =
+    readsNew board (boardFields 3 (replicate 13 0)) 300
+    ∷ prints board "table 3 2 300\n1 10 5 2 1 2\n2 20 8 1 2 1\n3 300 140 0 1 1\nshort 144 3\n"
+    ∷ printsQuick (setupOf 2 0 (4 ∷ 4 ∷ []) (4 ∷ 4 ∷ []) (3 ∷ 1 ∷ [])) "table 2 2 4\n1 4 4 1 2 1\n2 4 4 0 1 1\nquick 4\n"
+    ∷ prints (5 ∷ 1 ∷ 1 ∷ []) "refused 1 0\n"
+    ∷ prints listing "refused 17 0\n"
+    ∷ prints (0 ∷ 1 ∷ 1 ∷ 0 ∷ 10 ∷ 0 ∷ 0 ∷ 0 ∷ 1 ∷ 0 ∷ []) "refused 4 0\n"
+    ∷ prints (setupOf 1 10 (0 ∷ []) (1 ∷ []) (1 ∷ [])) "refused 13 0\n"
+    ∷ prints (setupOf 2 0 (1000 ∷ 1001 ∷ 10 ∷ []) (1 ∷ 1 ∷ 1 ∷ []) (3 ∷ 1 ∷ 4 ∷ [])) "refused 15 3\n"
+    ∷ refusesNew (1 ∷ 17 ∷ 5 ∷ 10 ∷ []) 17 0
+    ∷ refusesNew (0 ∷ 17 ∷ 5 ∷ 10 ∷ []) 2 0
+    ∷ refusesNew (0 ∷ 1 ∷ 5 ∷ 10 ∷ []) 3 0
+    ∷ refusesNew (0 ∷ 1 ∷ 4 ∷ 10 ∷ []) 4 0
+    ∷ refusesNew (setupOf 1 4 (10 ∷ 10 ∷ []) (6 ∷ 7 ∷ []) (1 ∷ 0 ∷ [])) 14 2
+    ∷ moves
+
 -- Tasks tied to cores. Two full tasks that want each other's core: the rule of the empty core alone would lose the plan. Three full tasks, of which
 -- the placed ones judge twins too: 7 steps. A core that only the heaviest and a light task may use, which is then left out. Two full tasks of which
 -- the first may use either core: twins by the first task alone would lose the plan; first fit leaves the second out, and is stored after two steps.
@@ -156,7 +259,7 @@ ties =
     ∷ tied (3 ∷ 1 ∷ 3 ∷ []) (refusesCore (loose 1 3 2) (1 ∷ 2 ∷ 2 ∷ []) 1 16 2)
     ∷ tied (3 ∷ 1 ∷ 2 ∷ []) (refusesCore (loose 1 3 2) (1 ∷ 0 ∷ 1 ∷ []) 7 16 3)
     ∷ tied (3 ∷ 1 ∷ 2 ∷ []) (starts (loose 1 3 2) (2 ∷ 0 ∷ 2 ∷ []) 2 (front (slot 10 1 0 0 ∷ emptySlot ∷ slot 10 2 0 0 ∷ [])))
-    ∷ []
+    ∷ setups
 
 -- Switch charges. Row a's table, which is full, is short with a charge, and its core is refused. A charge of 1 reorders two tasks, in the exact plan
 -- and the quick one. A charge of 9 fills a core alone, and an empty core's record carries it. A task of period 5 and time 2 asks for nothing, for one
@@ -196,7 +299,7 @@ emptyCores =
     ∷ plans seven 19 Spent (1 ∷ 2 ∷ 3 ∷ 0 ∷ 0 ∷ 3 ∷ 0 ∷ []) 14 19
     ∷ plans seven 20 Spent (1 ∷ 0 ∷ 2 ∷ 3 ∷ 0 ∷ 2 ∷ 3 ∷ []) 13 20
     ∷ plans seven 24 Short (1 ∷ 0 ∷ 2 ∷ 3 ∷ 0 ∷ 2 ∷ 3 ∷ []) 13 24
-    ∷ prints five "table 5 4 10\n1 10 6 1\n2 10 6 2\n3 10 6 3\n4 10 6 4\n5 10 6 0\nshort 6 5\n"
+    ∷ prints (setupOf 4 0 (replicate 5 10) (replicate 5 6) (replicate 5 15)) "table 5 4 10\n1 10 6 1 4 1\n2 10 6 2 4 1\n3 10 6 3 4 1\n4 10 6 4 4 1\n5 10 6 0 4 1\nshort 6 5\n"
     ∷ ceilings five 752
     ∷ ceilings seven 8192
     ∷ ceilings listing 14
@@ -215,10 +318,10 @@ quicks =
     ∷ quick (tableOf 1 (10 ∷ 10 ∷ []) (3 ∷ 7 ∷ [])) (1 ∷ 1 ∷ []) 0
     ∷ quick listing (1 ∷ 0 ∷ 0 ∷ []) 10
     ∷ quick (tableOf 2 (1000 ∷ 10 ∷ []) (600 ∷ 6 ∷ [])) (2 ∷ 1 ∷ []) 0
-    ∷ printsQuick packed "table 6 2 10\n1 10 5 1\n2 10 4 1\n3 10 3 2\n4 10 3 2\n5 10 3 2\n6 10 2 0\nquick 2\n"
-    ∷ printsQuick crowded "table 2 1 10\n1 5 2 0\n2 10 7 1\nquick 4\n"
-    ∷ prints crowded "table 2 1 10\n1 5 2 0\n2 10 7 1\nshort 4 2\n"
-    ∷ printsQuick (tableOf 1 (1000 ∷ 1001 ∷ []) (1 ∷ 1 ∷ [])) "refused 7 2\n"
+    ∷ printsQuick (setupOf 2 0 (replicate 6 10) (5 ∷ 4 ∷ 3 ∷ 3 ∷ 3 ∷ 2 ∷ []) (replicate 6 3)) "table 6 2 10\n1 10 5 1 2 1\n2 10 4 1 2 1\n3 10 3 2 2 1\n4 10 3 2 2 1\n5 10 3 2 2 1\n6 10 2 0 2 1\nquick 2\n"
+    ∷ printsQuick crowded "table 2 1 10\n1 5 2 0 1 1\n2 10 7 1 1 1\nquick 4\n"
+    ∷ prints crowded "table 2 1 10\n1 5 2 0 1 1\n2 10 7 1 1 1\nshort 4 2\n"
+    ∷ printsQuick (setupOf 1 0 (1000 ∷ 1001 ∷ []) (1 ∷ 1 ∷ []) (1 ∷ 1 ∷ [])) "refused 7 2\n"
     ∷ emptyCores
 
 -- Of two tasks of equal weight the lower number is placed.
@@ -239,12 +342,12 @@ more =
     ∷ plans (tableOf 2 (10 ∷ 10 ∷ 10 ∷ 10 ∷ 10 ∷ []) (5 ∷ 5 ∷ 5 ∷ 5 ∷ 1 ∷ [])) 1000000 Short (1 ∷ 1 ∷ 2 ∷ 2 ∷ 0 ∷ []) 1 5
     ∷ plans (tableOf 1 (10 ∷ 10 ∷ 10 ∷ 10 ∷ 10 ∷ []) (8 ∷ 6 ∷ 3 ∷ 3 ∷ 3 ∷ [])) 10 Spent (0 ∷ 1 ∷ 1 ∷ 0 ∷ 0 ∷ []) 14 10
     ∷ ticks (tableOf 1 (3 ∷ []) (2 ∷ [])) (1 ∷ []) 1 (replicate 3 (replicate 16 1)) (1 ∷ 0 ∷ 0 ∷ [])
-    ∷ prints listing "table 3 1 10\n1 10 7 0\n2 10 6 1\n3 10 4 1\nshort 7 6\n"
-    ∷ prints rowD "table 5 2 10\n1 10 5 1\n2 10 5 1\n3 10 4 2\n4 10 3 2\n5 10 3 2\nall 0 5\n"
-    ∷ prints (tableOf 1 (10 ∷ 10 ∷ []) (3 ∷ 8 ∷ [])) "table 2 1 10\n1 10 3 0\n2 10 8 1\nshort 3 2\n"
-    ∷ prints (tableOf 1 (1000 ∷ 1001 ∷ []) (1 ∷ 1 ∷ [])) "refused 7 2\n"
-    ∷ prints (tableOf 1 (10 ∷ []) (11 ∷ [])) "refused 6 1\n"
-    ∷ prints (17 ∷ 1 ∷ []) "refused 2 0\n"
+    ∷ prints newListing "table 3 1 10\n1 10 7 0 1 1\n2 10 6 1 1 1\n3 10 4 1 1 1\nshort 7 6\n"
+    ∷ prints (setupOf 2 0 (replicate 5 10) (5 ∷ 5 ∷ 4 ∷ 3 ∷ 3 ∷ []) (replicate 5 3)) "table 5 2 10\n1 10 5 1 2 1\n2 10 5 1 2 1\n3 10 4 2 2 1\n4 10 3 2 2 1\n5 10 3 2 2 1\nall 0 5\n"
+    ∷ prints (setupOf 1 0 (10 ∷ 10 ∷ []) (3 ∷ 8 ∷ []) (1 ∷ 1 ∷ [])) "table 2 1 10\n1 10 3 0 1 1\n2 10 8 1 1 1\nshort 3 2\n"
+    ∷ prints (setupOf 1 0 (1000 ∷ 1001 ∷ []) (1 ∷ 1 ∷ []) (1 ∷ 1 ∷ [])) "refused 7 2\n"
+    ∷ prints (setupOf 1 0 (10 ∷ []) (11 ∷ []) (1 ∷ [])) "refused 6 1\n"
+    ∷ prints (0 ∷ 17 ∷ 1 ∷ 0 ∷ []) "refused 2 0\n"
     ∷ prints [] "refused 1 0\n"
     ∷ tickOnce (front (slot 8 1 3 0 ∷ slot 10 3 0 2 ∷ slot 5 2 0 1 ∷ [])) (9 ∷ 1 ∷ 9 ∷ replicate 13 0) 3 2
     (front (slot 8 1 2 0 ∷ slot 10 3 9 1 ∷ slot 5 2 4 1 ∷ []))

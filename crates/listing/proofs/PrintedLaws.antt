@@ -12,9 +12,9 @@ use Rattle.taskset.specs.Reading.{taskSetOf}
 use Rattle.taskset.specs.declared.Fields.{Fields}
 use Rattle.taskset.specs.declared.Reading.{Reading}
 use Rattle.taskset.specs.declared.TaskSet.{TaskSet}
-use Rattle.stored.specs.Form.{everyAffinity, fieldsAlone}
-use Rattle.stored.specs.Tests.{tableOutcome, readingOf}
-use Rattle.stored.proofs.TableLaws.{table-tested-alone, read-outcome, read-tasks}
+use Rattle.setup.specs.Form.{setupFields}
+use Rattle.setup.specs.Tests.{setupOutcome, setupReading}
+use Rattle.setup.proofs.SetupLaws.{setup-tested, read-outcome, read-tasks}
 use Rattle.text.specs.Shown.{shown, Appended}
 use Rattle.text.specs.declared.Text.{Text}
 use Rattle.text.proofs.ClipLaws.{append-whole}
@@ -37,30 +37,30 @@ pub refusal-printed : {o : Outcome} {cause : Cause} {t r : Text} → o ≡ Refus
 unfolding printed
 refusal-printed e z p = rw e (append-whole z p (omega arith))
 
-pub in-terms : (s lines : List ℕ) {x : List ℕ} → x ≡ printed (tableOutcome s 0 (everyAffinity s)) lines → Printed s lines x
+pub in-terms : (s lines : List ℕ) {x : List ℕ} → x ≡ printed (setupOutcome s) lines → Printed s lines x
 unfolding printed
 in-terms s lines e = record {
-  planned = λ v. e ∙ rw (accepts (decides (table-tested-alone s)) .1 v);
+  planned = λ v. e ∙ rw (accepts (decides (setup-tested s)) .1 v);
   refused = λ number place h f.
-      let g = gives-refused (tableOutcome s 0 (everyAffinity s)) number place h (decides (table-tested-alone s) .refused number place h .1 f) in
+      let g = gives-refused (setupOutcome s) number place h (decides (setup-tested s) .refused number place h .1 f) in
       e ∙ rw (g .1, g .2, g .3);
 }
 
 -- ---- from the reader's answer
 
-module _ (s : List ℕ) {g : Reading} (e : g ≡ readingOf s 0 (everyAffinity s)) (lines : List ℕ) {x : List ℕ} {o : Outcome} (q : g .outcome ≡ o) where
-  pub printed-refused : {cause : Cause} → o ≡ Refused cause → x ≡ printed o [] → x ≡ printed (tableOutcome s 0 (everyAffinity s)) lines
+module _ (s : List ℕ) {g : Reading} (e : g ≡ setupReading s) (lines : List ℕ) {x : List ℕ} {o : Outcome} (q : g .outcome ≡ o) where
+  pub printed-refused : {cause : Cause} → o ≡ Refused cause → x ≡ printed o [] → x ≡ printed (setupOutcome s) lines
   unfolding printed
-  printed-refused h p = rw (← read-outcome s 0 (everyAffinity s) e, q, h) (p ∙ rw h)
+  printed-refused h p = rw (← read-outcome s e, q, h) (p ∙ rw h)
 
-  pub printed-planned : o ≡ Accepted → x ≡ lines → x ≡ printed (tableOutcome s 0 (everyAffinity s)) lines
+  pub printed-planned : o ≡ Accepted → x ≡ lines → x ≡ printed (setupOutcome s) lines
   unfolding printed
-  printed-planned h p = p ∙ rw (← read-outcome s 0 (everyAffinity s) e, q, h)
+  printed-planned h p = p ∙ rw (← read-outcome s e, q, h)
 
 -- the lines of an answer to the task set that was read, whatever the answer and its lines
-pub plan-printed : {A : Type 0} (lines : TaskSet → A → List ℕ) (answer : Fields → A) (s : List ℕ) {g : Reading} → g ≡ readingOf s 0 (everyAffinity s)
+pub plan-printed : {A : Type 0} (lines : TaskSet → A → List ℕ) (answer : Fields → A) (s : List ℕ) {g : Reading} → g ≡ setupReading s
     → {o : Outcome} {plan : A} {x : List ℕ} → g .outcome ≡ o → o ≡ Accepted → plan ≡ answer (g .tasks .fields) → x ≡ lines (g .tasks) plan
-    → x ≡ lines (taskSetOf (fieldsAlone s)) (answer (fieldsAlone s))
+    → x ≡ lines (taskSetOf (setupFields s)) (answer (setupFields s))
 unfolding taskSetOf
 plan-printed lines answer s {g} e q h w p =
-    p ∙ ap (λ a. lines (g .tasks) a) w ∙ ap (λ u. lines u (answer (u .fields))) (read-tasks s 0 (everyAffinity s) e (q ∙ h))
+    p ∙ ap (λ a. lines (g .tasks) a) w ∙ ap (λ u. lines u (answer (u .fields))) (read-tasks s e (q ∙ h))

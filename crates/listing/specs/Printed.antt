@@ -1,4 +1,4 @@
--- What a program prints of a call on the bytes of a table. Programs go by charge 0 and permit every core.
+-- What a program prints of a call on the bytes of a table in the new form.
 use Prim.Native.Nat.{ℕ, _≤_}
 use mathlib.Core.Path.{_≡_}
 use mathlib.Core.List.{List}
@@ -6,8 +6,7 @@ use Rattle.refusal.specs.Causes.{numberOf, placeOf}
 use Rattle.refusal.specs.Conditions.{First}
 use Rattle.refusal.specs.declared.Outcome.{Outcome}
 use Rattle.refusal.specs.declared.Outcome.the-variants.{Accepted, Refused}
-use Rattle.stored.specs.Form.{everyAffinity}
-use Rattle.stored.specs.Limits.{Valid, tableConditions}
+use Rattle.setup.specs.Limits.{ValidSetup, setupConditions}
 use Rattle.listing.specs.Lines.{refusalLine}
 
 -- the lines of the answer, or the line of a refusal alone
@@ -17,6 +16,6 @@ printed Accepted lines = lines
 
 -- The output in the table's terms, where these are the lines of a valid one.
 pub record Printed (s lines output : List ℕ) : Type 0 where
-  pub planned : Valid s 0 (everyAffinity s) → output ≡ lines
+  pub planned : ValidSetup s → output ≡ lines
   -- A refused table's output is one line: `refused`, number and place of the first condition that holds.
-  pub refused : (number place : ℕ) → 1 ≤ number → First (tableConditions s) number place → output ≡ refusalLine number place
+  pub refused : (number place : ℕ) → 1 ≤ number → First (setupConditions s) number place → output ≡ refusalLine number place

@@ -1,6 +1,7 @@
 // The lines that the outputs of programs share: a table with the cores of its tasks, and a refusal.
 ghost use mathlib.Core.Path.{_≡_};
 ghost use Prim.Native.Nat.{_≤_};
+ghost use Rattle.affinity.specs.Permitted.{permittedCount, lowestPermitted};
 ghost use Rattle.refusal.specs.Causes.{numberOf, placeOf};
 ghost use Rattle.text.specs.Shown.{shown, Appended};
 ghost use mathlib.Core.List.{[]};
@@ -34,26 +35,35 @@ fn append_sizes(text: Text, t: TaskSet) -> Text
     text::append_bytes(h, b"\n")
 }
 
-// A task's line: its number, period, budget and core.
-fn append_task(t: Text, task: usize, period: u32, budget: u32, core: u8) -> Text
-    ensures { λ r. ⌜ Appended t (taskLine task period budget core) 84 r ⌝ }
+// A task's line: its number, period, budget and core, how many cores its core byte permits, and the lowest of them.
+fn append_task(t: Text, task: usize, period: u32, budget: u32, core: u8, byte: u8) -> Text
+    ensures { λ r. ⌜ Appended t (taskLine task period budget core (permittedCount byte 8) (lowestPermitted byte 8)) 126 r ⌝ }
 {
     let number = text::append_decimal(t, task as u64);
     let p = text::append_field(number, period as u64);
     let b = text::append_field(p, budget as u64);
     let c = text::append_field(b, core as u64);
-    text::append_bytes(c, b"\n")
+    let count = text::append_field(c, affinity::count(byte) as u64);
+    let lowest = text::append_field(count, affinity::lowest(byte) as u64);
+    text::append_bytes(lowest, b"\n")
 }
 
 // A line for each task.
 fn append_tasks(t: Text, f: Fields, cores: [u8; 16]) -> Text
     requires { ⌜ f .n ≤ 16 ⌝ }
-    ensures { λ r. ⌜ Appended t (taskLines f cores (f .n)) 1344 r ⌝ }
+    ensures { λ r. ⌜ Appended t (taskLines f cores (f .n)) 2016 r ⌝ }
 {
     let mut longer = t;
     let mut k = 0;
     while k < f.n {
-        let next = append_task(longer, k + 1, f.periods[k], f.budgets[k], cores[k]);
+        let next = append_task(
+            longer,
+            k + 1,
+            f.periods[k],
+            f.budgets[k],
+            cores[k],
+            f.affinity[k],
+        );
         longer = next;
         k += 1;
     }
@@ -63,7 +73,7 @@ fn append_tasks(t: Text, f: Fields, cores: [u8; 16]) -> Text
 // The lines of a table and the cores of its tasks.
 pub fn append_table(text: Text, t: TaskSet, cores: [u8; 16]) -> Text
     requires { ⌜ t .fields .n ≤ 16 ⌝ }
-    ensures { λ r. ⌜ Appended text (tableLines t cores) 1413 r ⌝ }
+    ensures { λ r. ⌜ Appended text (tableLines t cores) 2085 r ⌝ }
 {
     let sizes = append_sizes(text, t);
     let fields = t.fields;

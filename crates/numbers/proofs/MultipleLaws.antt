@@ -1,6 +1,6 @@
 -- Laws of the greatest common divisor and of the least common multiple.
 use Prim.Native.Nat.{ℕ, zero, suc, _*_, _/_, _%_, _≤_, _<_, _∣_}
-use mathlib.Core.Path.{_≡_, refl, _∙_, ap}
+use mathlib.Core.Path.{_≡_, refl, _∙_, ap, ap₂}
 use mathlib.Core.Logic.{inl, inr, _↔_}
 use native.Mathlib.Omega.{arith}
 use native.Mathlib.Nat.{dvd-refl, dvd-zero, dvd-mul-left, dvd-mul-right, dvd-trans, dvd-mul-right-of-dvd, dvd-mod-iff, dvd-antisymm, pos-of-dvd-of-pos, div-mul-cancel, dvd-of-mul-dvd-mul-right, dvd-sub, mul-dvd-mul-left, mul-dvd-mul-right, mod-def, mul-sub, mod-lt, mul-assoc, mul-comm, mul-right-comm, mul-div-assoc, one-mul, le-of-dvd, one-dvd, mul-pos, zero-lt-suc, le-div-iff-mul-le, eq-or-lt-of-le, div-zero, zero-mul}
@@ -109,3 +109,9 @@ pub lcms-mono : (f : ℕ → ℕ) (k n : ℕ) → k ≤ n → ((j : ℕ) → j <
 lcms-mono f k n h p =
     le-of-dvd (lcms-is f n p .positive)
     (lcms-is f k (λ j b. p j (omega arith)) .least (lcms f n) (λ j b. lcms-multiple f n j (omega arith)))
+
+-- the multiple depends on the numbers below n alone
+pub lcms-cong : (f g : ℕ → ℕ) (n : ℕ) → ((k : ℕ) → k < n → f k ≡ g k) → lcms f n ≡ lcms g n
+unfolding lcms
+lcms-cong f g zero h = refl
+lcms-cong f g (suc n) h = ap₂ lcm (lcms-cong f g n (λ k b. h k (omega arith))) (h n (omega arith))

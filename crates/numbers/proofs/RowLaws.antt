@@ -1,14 +1,16 @@
 -- Laws of rows of sixteen, and the steps of a loop that fills one from the front.
-use Prim.Native.Nat.{ℕ, zero, suc, _+_, _≤_, _<_}
+use Prim.Native.Nat.{ℕ, zero, suc, _+_, _≤_, _<_, min}
 use mathlib.Core.Path.{_≡_, refl, sym, _∙_, ap}
 use mathlib.Core.List.{List}
 use mathlib.Core.Logic.{_⊎_, inl, inr, ⊎-elim, by-cases}
 use lib.ListN.{length, getD, set, take, replicate, length-set, List·getD-eq-default}
 use lib.Seq.{ext-getD, getD-set-same, getD-set-other, getD-take, length-take-le, set-out}
+use native.Mathlib.Nat.{le-refl}
 use native.Mathlib.Omega.{arith}
 use native.Mathlib.Decide.{ℕ-discrete, decLt}
 use borrow.Author.Tests.{lt-ltb, le-ltb}
 use Rattle.numbers.specs.Rows.{tab, upTo, row, entry}
+use Rattle.numbers.proofs.BoundLaws.{not-less}
 
 module _ {A : Type 0} (z : A) where
   pub length-tab : (w : ℕ) (f : ℕ → A) → length (tab w f) ≡ w
@@ -92,6 +94,10 @@ module _ {A : Type 0} (z : A) where
       (λ k b. getD-tab 16 (upTo z n f) k b
       ∙ by-cases (decLt k n) (λ l. rw (lt-ltb k n l) (h k l)) (λ l. rw (le-ltb k n (omega arith))))
 
+-- a row of a row's entries is that row
+pub row-again : (n : ℕ) (g : ℕ → ℕ) → n ≤ 16 → row 0 n (entry (row 0 n g)) ≡ row 0 n g
+row-again n g few = row-cong 0 n (entry (row 0 n g)) g (λ k h. getD-row 0 n g k h few)
+
 -- the front of a row is the list of its entries
 pub take-row-tab : (n : ℕ) (f : ℕ → ℕ) → n ≤ 16 → take n (row 0 n f) ≡ tab n f
 take-row-tab n f few =
@@ -131,3 +137,22 @@ module _ {A : Type 0} {z : A} {n : ℕ} {f : ℕ → A} {l : List A} {k : ℕ} w
 
   pub fill-done : Filled z n f l k → n ≤ k → l ≡ row z n f
   fill-done s h = let e : k ≡ n = omega (arith, s .top) in rw e at (s .is)
+
+-- a row has sixteen entries, however large n is
+row-most : (n : ℕ) (f : ℕ → ℕ) {l : List ℕ} → l ≡ row 0 (min n 16) f → l ≡ row 0 n f
+unfolding row
+row-most n f {l} e =
+    row-ext 0 n f l (ap length e ∙ length-row 0 (min n 16) f)
+    (λ k b. ap (λ (x : List ℕ). getD x k 0) e ∙ getD-tab 0 16 (upTo 0 (min n 16) f) k b
+    ∙ by-cases (decLt k n)
+    (λ h. upTo-below 0 (min n 16) f k (omega arith) ∙ sym (upTo-below 0 n f k h))
+    (λ h. upTo-above 0 (min n 16) f k (omega arith) ∙ sym (upTo-above 0 n f k (omega arith))))
+
+-- the loop that fills at most sixteen of n entries
+pub fill-most : (n : ℕ) {f : ℕ → ℕ} {count : ℕ} {l : List ℕ} {k : ℕ} → Filled 0 count f l k → count ≡ min n 16 → count ≤ k → l ≡ row 0 n f
+fill-most n {f} s e h = row-most n f (fill-done s h ∙ ap (λ (x : ℕ). row 0 x f) e)
+
+-- as many entries as there are that are not 0
+pub entries-there : (n : ℕ) (xs : List ℕ) → ((k : ℕ) → k < n → 1 ≤ getD xs k 0) → n ≤ length xs
+entries-there n xs h =
+    not-less (length xs) n (λ g. omega (arith, h (length xs) g, List·getD-eq-default xs 0 (le-refl (length xs))))

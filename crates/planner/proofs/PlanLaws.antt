@@ -21,6 +21,8 @@ use Rattle.taskset.specs.declared.Reading.{Reading}
 use Rattle.stored.specs.Form.{fieldsOf}
 use Rattle.stored.specs.Tests.{readingOf}
 use Rattle.stored.proofs.TableLaws.{read-outcome, read-tasks}
+use Rattle.setup.specs.Tests.{setupReading}
+use Rattle.setup.proofs.SetupLaws as setup
 use Rattle.planning.specs.Order.{precedes, planningOrder, Listed}
 use Rattle.planning.proofs.OrderLaws.{planning-front, planning-is}
 use Rattle.planning.proofs.ListedLaws.{gathered-tasks, gathered-entries, gathered-each}
@@ -30,7 +32,7 @@ use Rattle.allocation.specs.TableOrder.{inPlanningOrder, tableAnswer}
 use Rattle.search.specs.Search.{Ranges, foundOf}
 use Rattle.search.specs.declared.Found.{Found}
 use Rattle.planner.specs.Problem.{tableProblem, orderOf}
-use Rattle.planner.specs.Plan.{verdictOf, allocationOf, planFor, refusedPlan, planBy, planOf}
+use Rattle.planner.specs.Plan.{verdictOf, allocationOf, planFor, refusedPlan, planBy, planOf, setupPlan}
 use Rattle.planner.specs.declared.Allocation.{Allocation}
 use Rattle.planner.specs.declared.Verdict.{Verdict}
 use Rattle.planner.specs.declared.Verdict.the-variants.{All, Short, Spent}
@@ -151,3 +153,9 @@ module _ (s : List ℕ) (charge : ℕ) (affinity : List ℕ) {g : Reading} (e : 
   pub plan-accepted : (limit : ℕ) {r : Allocation} → g .outcome ≡ outcome.Accepted → r ≡ planFor (g .tasks .fields) limit → r ≡ planOf s charge affinity limit
   unfolding planOf planBy
   plan-accepted limit q w = rw (← read-outcome s charge affinity e, q) (w ∙ ap (λ f. planFor f limit) (fields-are q))
+
+-- the same for a table in the new form
+pub setup-planned : (s : List ℕ) {g : Reading} → g ≡ setupReading s → (limit : ℕ) {r : Allocation} → g .outcome ≡ outcome.Accepted
+    → r ≡ planFor (g .tasks .fields) limit → r ≡ setupPlan s limit
+unfolding setupPlan planBy
+setup-planned s e limit q w = rw (← setup.read-outcome s e, q) (w ∙ ap (λ f. planFor f limit) (setup.read-fields s e q))

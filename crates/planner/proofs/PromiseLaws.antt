@@ -25,6 +25,10 @@ use Rattle.stored.specs.Form.{fieldsOf}
 use Rattle.stored.specs.Tests.{tableOutcome}
 use Rattle.stored.specs.Limits.{Valid, conditions}
 use Rattle.stored.proofs.TableLaws.{table-tested}
+use Rattle.setup.specs.Form.{setupFields}
+use Rattle.setup.specs.Tests.{setupOutcome}
+use Rattle.setup.specs.Limits.{ValidSetup}
+use Rattle.setup.proofs.SetupLaws.{setup-tested}
 use Rattle.planning.proofs.PlainOrder.{in-order}
 use Rattle.planning.proofs.OrderLaws.{sorted-is}
 use Rattle.taskset.specs.declared.Fields.{Fields}
@@ -36,7 +40,7 @@ use Rattle.allocation.proofs.Reorder.{gathered-positive, twins-gather, twins-ba
 use Rattle.allocation.proofs.EntryRule.{entry-rule}
 use Rattle.allocation.proofs.Guarantee.{guaranteed}
 use Rattle.planner.specs.Problem.{tableProblem, orderOf}
-use Rattle.planner.specs.Plan.{verdictOf, allocationOf, planFor, refusedPlan, planBy, planOf, verdictOutcome}
+use Rattle.planner.specs.Plan.{verdictOf, allocationOf, planFor, refusedPlan, planBy, planOf, setupPlan, verdictOutcome}
 use Rattle.planner.specs.Promise.{walkOf, choicesOf, ExactDemands, Safe, StatedOrder, Promise, WalkRule, RefusedPlan, Plans}
 use Rattle.planner.specs.declared.Allocation.{Allocation}
 use Rattle.planner.specs.declared.Verdict.the-variants.{All, Short, Spent}
@@ -242,3 +246,13 @@ module _ (s : List ℕ) (charge : ℕ) (affinity : List ℕ) (limit : ℕ) {r : 
     walks = λ v. walk-rule (fieldsOf s charge affinity) (v .fields);
     refused = λ n. rw e (by-refused (tableOutcome s charge affinity) (fieldsOf s charge affinity) limit (rw (e, plan-outcome s charge affinity limit) at n));
   }
+
+-- of a table in the new form
+module _ (s : List ℕ) (limit : ℕ) where
+  pub setup-outcome : verdictOutcome (setupPlan s limit .verdict) ≡ setupOutcome s
+  unfolding setupPlan
+  setup-outcome = answer-outcome (setupOutcome s) (setupFields s) limit
+
+  pub setup-promised : ValidSetup s → Promise (setupFields s) limit (setupPlan s limit)
+  unfolding setupPlan planBy
+  setup-promised v = rw (accepts (decides (setup-tested s)) .1 v) (promised (setupFields s) (v .fields) limit)

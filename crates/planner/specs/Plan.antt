@@ -10,6 +10,8 @@ use Rattle.refusal.specs.declared.Outcome.the-variants as outcome
 use Rattle.taskset.specs.declared.Fields.{Fields}
 use Rattle.stored.specs.Form.{fieldsOf}
 use Rattle.stored.specs.Tests.{tableOutcome}
+use Rattle.setup.specs.Form.{setupFields}
+use Rattle.setup.specs.Tests.{setupOutcome}
 use Rattle.allocation.specs.Walk.{WalkAnswer}
 use Rattle.allocation.specs.TableOrder.{tableAnswer}
 use Rattle.planner.specs.Problem.{tableProblem, orderOf}
@@ -48,6 +50,10 @@ planBy outcome.Accepted f limit = planFor f limit
 -- the answer for a table, the charge and the core bytes beside it, and a step limit
 unfoldable pub planOf : List ℕ → ℕ → List ℕ → ℕ → Allocation
 planOf s charge affinity limit = planBy (tableOutcome s charge affinity) (fieldsOf s charge affinity) limit
+
+-- the answer for a table in the new form and a step limit
+unfoldable pub setupPlan : List ℕ → ℕ → Allocation
+setupPlan s limit = planBy (setupOutcome s) (setupFields s) limit
 
 -- what a verdict says of the call: through it a verdict has the paper's number and place
 unfoldable pub verdictOutcome : Verdict → Outcome

@@ -9,6 +9,8 @@ use Rattle.refusal.specs.declared.Outcome.the-variants.{Accepted, Refused}
 use Rattle.taskset.specs.declared.Fields.{Fields}
 use Rattle.stored.specs.Form.{fieldsOf}
 use Rattle.stored.specs.Tests.{tableOutcome}
+use Rattle.setup.specs.Form.{setupFields}
+use Rattle.setup.specs.Tests.{setupOutcome}
 use Rattle.allocation.specs.Placement.{rejected}
 use Rattle.allocation.specs.FirstFit.{tableFit}
 use Rattle.planner.specs.Problem.{tableProblem, orderOf}
@@ -38,3 +40,7 @@ quickBy Accepted f = quickFor f
 -- the answer for a table, the charge and the core bytes beside it
 unfoldable pub quickOf : List ℕ → ℕ → List ℕ → QuickPlan
 quickOf s charge affinity = quickBy (tableOutcome s charge affinity) (fieldsOf s charge affinity)
+
+-- the answer for a table in the new form
+unfoldable pub setupQuick : List ℕ → QuickPlan
+setupQuick s = quickBy (setupOutcome s) (setupFields s)

@@ -9,9 +9,9 @@ use Rattle.refusal.specs.declared.Outcome.the-variants as outcome
 use Rattle.taskset.specs.Reading.{taskSetOf, acceptedReading, readingBy}
 use Rattle.taskset.specs.declared.Fields.{Fields}
 use Rattle.taskset.specs.declared.TaskSet.{TaskSet}
-use Rattle.stored.specs.Form.{everyAffinity, fieldsAlone}
-use Rattle.stored.specs.Tests.{tableOutcome, readingOf}
-use Rattle.quick.specs.Quick.{quickFor, quickBy, quickOf}
+use Rattle.setup.specs.Form.{setupFields}
+use Rattle.setup.specs.Tests.{setupOutcome, setupReading}
+use Rattle.quick.specs.Quick.{quickFor, quickBy, setupQuick}
 use Rattle.quick.specs.declared.QuickPlan.{QuickPlan}
 use Rattle.quick.proofs.PromiseLaws.{quick-outcome}
 use Rattle.text.specs.Ascii.{ascii}
@@ -29,7 +29,7 @@ pub summary-made : {t a b r : Text} (plan : QuickPlan) → Appended t (ascii "qu
 unfolding quickSummary
 summary-made plan p q u = append-both (append-both p q) u
 
-pub plan-whole : {t a r : Text} (s : TaskSet) (plan : QuickPlan) → shown t ≡ [] → Appended t (tableLines s (plan .placement)) 1413 a
+pub plan-whole : {t a r : Text} (s : TaskSet) (plan : QuickPlan) → shown t ≡ [] → Appended t (tableLines s (plan .placement)) 2085 a
     → Appended a (quickSummary plan) 27 r → shown r ≡ quickLines s plan
 unfolding quickLines
 plan-whole s plan e p q = append-whole e (append-both p q) (omega arith)
@@ -43,12 +43,12 @@ never-refused f {plan} e q h =
     omega arith
 
 -- the definition, by the outcome of the table's tests
-output-is : (s : List ℕ) → quickOutputOf s ≡ printed (tableOutcome s 0 (everyAffinity s)) (quickLines (taskSetOf (fieldsAlone s)) (quickFor (fieldsAlone s)))
-unfolding quickOutputOf quickOf quickBy readingOf readingBy acceptedReading
-output-is s = rw (quick-outcome (tableOutcome s 0 (everyAffinity s)) (fieldsAlone s)) (printed-same (tableOutcome s 0 (everyAffinity s)) (λ e. rw e))
+output-is : (s : List ℕ) → quickOutputOf s ≡ printed (setupOutcome s) (quickLines (taskSetOf (setupFields s)) (quickFor (setupFields s)))
+unfolding quickOutputOf setupQuick quickBy setupReading readingBy acceptedReading
+output-is s = rw (quick-outcome (setupOutcome s) (setupFields s)) (printed-same (setupOutcome s) (λ e. rw e))
 
 -- ---- from the reader's answer to the output: both clauses of `report`
 
-pub output-both : (s : List ℕ) {x : List ℕ} → x ≡ printed (tableOutcome s 0 (everyAffinity s)) (quickLines (taskSetOf (fieldsAlone s)) (quickFor (fieldsAlone s)))
+pub output-both : (s : List ℕ) {x : List ℕ} → x ≡ printed (setupOutcome s) (quickLines (taskSetOf (setupFields s)) (quickFor (setupFields s)))
     → (x ≡ quickOutputOf s) × Reported s x
 output-both s e = (e ∙ sym (output-is s), in-terms s _ e)

@@ -1,4 +1,4 @@
-// The whole output of the program `quickplan` for the bytes of a table.
+// The whole output of the program `quickplan` for the bytes of a table in the new form.
 ghost use mathlib.Core.Path.{_≡_};
 ghost use Prim.Native.Nat.{_≤_};
 ghost use Rattle.text.specs.Shown.{shown, Appended};
@@ -33,7 +33,7 @@ pub fn report(table: &[u8]) -> Text
     ensures answer { λ r. ⌜ shown r ≡ quickOutputOf (now (table .entry)) ⌝ }
     ensures reported { λ r. ⌜ Reported (now (table .entry)) (shown r) ⌝ }
 {
-    let reading = stored::read_table(table);
+    let reading = setup::read_setup(table);
     let outcome = reading.outcome;
     let Outcome::Accepted = outcome else {
         return listing::refusal_report(outcome);

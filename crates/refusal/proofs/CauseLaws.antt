@@ -1,16 +1,16 @@
 -- The definitions are the paper's table, and the range of its numbers.
 use Prim.Native.Nat.{ℕ, _≤_}
-use mathlib.Core.Path.{refl}
+use mathlib.Core.Path.{_≡_, refl, sym, _∙_, ap}
 use native.Mathlib.Omega.{arith}
-use Rattle.refusal.specs.Causes.{numberOf}
+use Rattle.refusal.specs.Causes.{numberOf, placeOf}
 use Rattle.refusal.specs.CauseTable.{causeTable, Agrees}
 use Rattle.refusal.specs.declared.Cause.{Cause}
-use Rattle.refusal.specs.declared.Cause.the-variants.{TooShort, TaskCount, CoreCount, Length, Period, Budget, Hyperperiod, Buffer, Placement, CoreNumber, Overload, Slot, Charge, Cost, Affinity, NotPermitted}
+use Rattle.refusal.specs.declared.Cause.the-variants.{TooShort, TaskCount, CoreCount, Length, Period, Budget, Hyperperiod, Buffer, Placement, CoreNumber, Overload, Slot, Charge, Cost, Affinity, NotPermitted, FirstByte, Filling}
 
 pub table-agrees : (p : ℕ) → Agrees (causeTable p)
-table-agrees p = (refl, refl, (refl, refl, (refl, refl, (refl, refl, (refl, refl, (refl, refl, (refl, refl, (refl, refl, (refl, refl, (refl, refl, (refl, refl, (refl, refl, (refl, refl, (refl, refl, (refl, refl, (refl, refl, tt))))))))))))))))
+table-agrees p = (refl, refl, (refl, refl, (refl, refl, (refl, refl, (refl, refl, (refl, refl, (refl, refl, (refl, refl, (refl, refl, (refl, refl, (refl, refl, (refl, refl, (refl, refl, (refl, refl, (refl, refl, (refl, refl, (refl, refl, (refl, refl, tt))))))))))))))))))
 
-pub number-range : (c : Cause) → (1 ≤ numberOf c) × (numberOf c ≤ 16)
+pub number-range : (c : Cause) → (1 ≤ numberOf c) × (numberOf c ≤ 18)
 number-range TooShort = (omega arith, omega arith)
 number-range TaskCount = (omega arith, omega arith)
 number-range CoreCount = (omega arith, omega arith)
@@ -27,3 +27,12 @@ number-range Charge = (omega arith, omega arith)
 number-range (Cost task) = (omega arith, omega arith)
 number-range (Affinity task) = (omega arith, omega arith)
 number-range (NotPermitted task) = (omega arith, omega arith)
+number-range FirstByte = (omega arith, omega arith)
+number-range Filling = (omega arith, omega arith)
+
+-- number and place go by the case of the cause
+pub number-of : {c d : Cause} {x : ℕ} → c ≡ d → x ≡ numberOf d → x ≡ numberOf c
+number-of e p = p ∙ ap numberOf (sym e)
+
+pub place-of : {c d : Cause} {x : ℕ} → c ≡ d → x ≡ placeOf d → x ≡ placeOf c
+place-of e p = p ∙ ap placeOf (sym e)

@@ -4,7 +4,7 @@ use mathlib.Core.Path.{_≡_}
 use mathlib.Core.List.{List, [], _∷_}
 use Rattle.refusal.specs.Causes.{numberOf, placeOf}
 use Rattle.refusal.specs.declared.Cause.{Cause}
-use Rattle.refusal.specs.declared.Cause.the-variants.{TooShort, TaskCount, CoreCount, Length, Period, Budget, Hyperperiod, Buffer, Placement, CoreNumber, Overload, Slot, Charge, Cost, Affinity, NotPermitted}
+use Rattle.refusal.specs.declared.Cause.the-variants.{TooShort, TaskCount, CoreCount, Length, Period, Budget, Hyperperiod, Buffer, Placement, CoreNumber, Overload, Slot, Charge, Cost, Affinity, NotPermitted, FirstByte, Filling}
 
 -- A row of the table: a cause, its number, its place.
 pub data CauseRow : Type 0 where
@@ -29,6 +29,8 @@ causeTable p =
     ∷ cause (Cost p) 14 p
     ∷ cause (Affinity p) 15 p
     ∷ cause (NotPermitted p) 16 p
+    ∷ cause FirstByte 17 0
+    ∷ cause Filling 18 0
     ∷ []
 
 -- Number and place of each row are those that the definitions give its cause.

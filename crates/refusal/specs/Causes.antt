@@ -1,7 +1,7 @@
 -- The paper's number and place of each cause of refusal, and of an outcome.
 use Prim.Native.Nat.{ℕ}
 use Rattle.refusal.specs.declared.Cause.{Cause}
-use Rattle.refusal.specs.declared.Cause.the-variants.{TooShort, TaskCount, CoreCount, Length, Period, Budget, Hyperperiod, Buffer, Placement, CoreNumber, Overload, Slot, Charge, Cost, Affinity, NotPermitted}
+use Rattle.refusal.specs.declared.Cause.the-variants.{TooShort, TaskCount, CoreCount, Length, Period, Budget, Hyperperiod, Buffer, Placement, CoreNumber, Overload, Slot, Charge, Cost, Affinity, NotPermitted, FirstByte, Filling}
 use Rattle.refusal.specs.declared.Outcome.{Outcome}
 use Rattle.refusal.specs.declared.Outcome.the-variants.{Accepted, Refused}
 
@@ -23,6 +23,8 @@ numberOf Charge = 13
 numberOf (Cost task) = 14
 numberOf (Affinity task) = 15
 numberOf (NotPermitted task) = 16
+numberOf FirstByte = 17
+numberOf Filling = 18
 
 -- its place, the first such task or slot counted from 1; 0 where the paper names none
 abbrev pub placeOf : Cause → ℕ
@@ -42,6 +44,8 @@ placeOf Charge = 0
 placeOf (Cost task) = task
 placeOf (Affinity task) = task
 placeOf (NotPermitted task) = task
+placeOf FirstByte = 0
+placeOf Filling = 0
 
 -- number and place of an outcome: 0 and 0 where the call is accepted
 abbrev pub numberIn : Outcome → ℕ

@@ -21,6 +21,8 @@ pub enum Cause {
     Cost(usize),
     Affinity(usize),
     NotPermitted(usize),
+    FirstByte,
+    Filling,
 }
 
 // What a test, or several made in order, say of a call.
@@ -50,6 +52,8 @@ pub fn number(cause: Cause) -> u32
         Cause::Cost(_) => 14,
         Cause::Affinity(_) => 15,
         Cause::NotPermitted(_) => 16,
+        Cause::FirstByte => 17,
+        Cause::Filling => 18,
     }
 }
 
@@ -74,6 +78,8 @@ pub fn place(cause: Cause) -> usize
         Cause::Cost(task) => task,
         Cause::Affinity(task) => task,
         Cause::NotPermitted(task) => task,
+        Cause::FirstByte => 0,
+        Cause::Filling => 0,
     }
 }
 

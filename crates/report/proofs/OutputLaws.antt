@@ -8,10 +8,10 @@ use Rattle.refusal.specs.declared.Outcome.the-variants as outcome
 use Rattle.taskset.specs.Reading.{taskSetOf, acceptedReading, readingBy}
 use Rattle.taskset.specs.declared.Fields.{Fields}
 use Rattle.taskset.specs.declared.TaskSet.{TaskSet}
-use Rattle.stored.specs.Form.{everyAffinity, fieldsAlone}
-use Rattle.stored.specs.Tests.{tableOutcome, readingOf}
-use Rattle.planner.specs.Plan.{allocationOf, planFor, planBy, planOf, verdictOutcome}
-use Rattle.planner.proofs.PromiseLaws.{outcome-planned, plan-outcome}
+use Rattle.setup.specs.Form.{setupFields}
+use Rattle.setup.specs.Tests.{setupOutcome, setupReading}
+use Rattle.planner.specs.Plan.{allocationOf, planFor, planBy, setupPlan, verdictOutcome}
+use Rattle.planner.proofs.PromiseLaws.{outcome-planned, setup-outcome}
 use Rattle.planner.specs.declared.Allocation.{Allocation}
 use Rattle.planner.specs.declared.Verdict.{Verdict}
 use Rattle.planner.specs.declared.Verdict.the-variants as verdict
@@ -24,7 +24,7 @@ use Rattle.listing.proofs.PrintedLaws.{printed-same, in-terms}
 use Rattle.report.specs.Output.{summaryLine, planLines, outputOf}
 use Rattle.report.specs.Reported.{Reported}
 
-pub plan-whole : {t a r : Text} (s : TaskSet) (plan : Allocation) → shown t ≡ [] → Appended t (tableLines s (plan .placement)) 1413 a
+pub plan-whole : {t a r : Text} (s : TaskSet) (plan : Allocation) → shown t ≡ [] → Appended t (tableLines s (plan .placement)) 2085 a
     → Appended a (summaryLine plan) 50 r → shown r ≡ planLines s plan
 unfolding planLines
 plan-whole s plan e p q = append-whole e (append-both p q) (omega arith)
@@ -38,12 +38,12 @@ never-refused f limit {plan} e q h =
     omega arith
 
 -- the definition, by the outcome of the table's tests
-output-is : (s : List ℕ) → outputOf s ≡ printed (tableOutcome s 0 (everyAffinity s)) (planLines (taskSetOf (fieldsAlone s)) (planFor (fieldsAlone s) 1000000))
-unfolding outputOf planOf planBy readingOf readingBy acceptedReading
-output-is s = rw (plan-outcome s 0 (everyAffinity s) 1000000) (printed-same (tableOutcome s 0 (everyAffinity s)) (λ e. rw e))
+output-is : (s : List ℕ) → outputOf s ≡ printed (setupOutcome s) (planLines (taskSetOf (setupFields s)) (planFor (setupFields s) 1000000))
+unfolding outputOf setupPlan planBy setupReading readingBy acceptedReading
+output-is s = rw (setup-outcome s 1000000) (printed-same (setupOutcome s) (λ e. rw e))
 
 -- ---- from the reader's answer to the output: both clauses of `report`
 
-pub output-both : (s : List ℕ) {x : List ℕ} → x ≡ printed (tableOutcome s 0 (everyAffinity s)) (planLines (taskSetOf (fieldsAlone s)) (planFor (fieldsAlone s) 1000000))
+pub output-both : (s : List ℕ) {x : List ℕ} → x ≡ printed (setupOutcome s) (planLines (taskSetOf (setupFields s)) (planFor (setupFields s) 1000000))
     → (x ≡ outputOf s) × Reported s x
 output-both s e = (e ∙ sym (output-is s), in-terms s _ e)

@@ -2,12 +2,11 @@
 use Prim.Native.Nat.{ℕ}
 use mathlib.Core.List.{List}
 use Rattle.taskset.specs.Reading.{taskSetOf}
-use Rattle.stored.specs.Form.{fieldsAlone}
+use Rattle.setup.specs.Form.{setupFields}
 use Rattle.planner.specs.Plan.{planFor}
 use Rattle.listing.specs.Printed.{Printed}
 use Rattle.report.specs.Output.{planLines}
 
--- A valid table's output is its sizes, its tasks and its plan with charge 0 and every core permitted, within 1,000,000 steps; a refused one's
--- is its refusal alone.
+-- A valid table's output is its sizes, its tasks and its plan within 1,000,000 steps; a refused one's is its refusal alone.
 abbrev pub Reported : List ℕ → List ℕ → Type 0
-Reported s output = Printed s (planLines (taskSetOf (fieldsAlone s)) (planFor (fieldsAlone s) 1000000)) output
+Reported s output = Printed s (planLines (taskSetOf (setupFields s)) (planFor (setupFields s) 1000000)) output

@@ -3,13 +3,14 @@ use Prim.Native.Nat.{ℕ, _+_, _*_, _≤_, _<_, min}
 use mathlib.Core.Path.{_≡_, refl, sym, _∙_, ap}
 use mathlib.Core.List.{List, [], _∷_, _++_, append-nil}
 use mathlib.Core.Logic.{by-cases}
+use native.Mathlib.Nat.{zero-add}
 use native.Mathlib.Omega.{arith}
 use native.Mathlib.Decide.{decLt}
 use lib.ListN.{length, getD, replicate, length-append, length-replicate, getD-replicate, List·getD-eq-default}
-use Rattle.numbers.specs.Rows.{row, upTo, entry, padded}
-use Rattle.numbers.proofs.RowLaws.{getD-tab, getD-row, upTo-below, upTo-above, length-row, row-ext, Filled, fill-done}
+use Rattle.numbers.specs.Rows.{row, entry, padded}
+use Rattle.numbers.proofs.RowLaws.{getD-row, upTo-below, upTo-above, row-ext, row-cong}
 use Rattle.numbers.proofs.ZeroLaws.{getD-padded}
-use Rattle.wire.specs.Bytes.{wordAt, bytesOfAll}
+use Rattle.wire.specs.Bytes.{wordAt, byteAt, bytesOfAll}
 use Rattle.wire.proofs.ReadBackLaws.{read-back, length-bytes}
 use Rattle.affinity.specs.Permitted.{everyCore}
 use Rattle.taskset.specs.Fields.{affinityAt}
@@ -51,20 +52,6 @@ fields-read-back m charge periods budgets affinity few e short p b = λ i. recor
     here : row 0 (length periods) (wordAt (tableOf m periods budgets) (2 + 4 * length periods)) ≡ padded budgets
     here = row-read budgets _ (omega arith) few (λ k h. rw (split, at) (read-back budgets b .each (_ ∷ m ∷ bytesOfAll periods) [] k (omega arith)))
 
--- a row has sixteen entries, however large n is
-row-most : (n : ℕ) (f : ℕ → ℕ) {l : List ℕ} → l ≡ row 0 (min n 16) f → l ≡ row 0 n f
-unfolding row
-row-most n f {l} e =
-    row-ext 0 n f l (ap length e ∙ length-row 0 (min n 16) f)
-    (λ k b. ap (λ (x : List ℕ). getD x k 0) e ∙ getD-tab 0 16 (upTo 0 (min n 16) f) k b
-    ∙ by-cases (decLt k n)
-    (λ h. upTo-below 0 (min n 16) f k (omega arith) ∙ sym (upTo-below 0 n f k h))
-    (λ h. upTo-above 0 (min n 16) f k (omega arith) ∙ sym (upTo-above 0 n f k (omega arith))))
-
--- the loop that fills at most sixteen of n entries
-pub fill-most : (n : ℕ) {f : ℕ → ℕ} {count : ℕ} {l : List ℕ} {k : ℕ} → Filled 0 count f l k → count ≡ min n 16 → count ≤ k → l ≡ row 0 n f
-fill-most n {f} s e h = row-most n f (fill-done s h ∙ ap (λ (x : ℕ). row 0 x f) e)
-
 -- one byte for each of n tasks
 pub same-byte : (n k x : ℕ) {count : ℕ} → count ≡ min n 16 → k < count → x ≡ entry (replicate n x) k
 same-byte n k x e h = sym (getD-replicate n k x 0 (omega arith))
@@ -81,6 +68,11 @@ module _ (s : List ℕ) (charge : ℕ) where
   every-affinity few k h =
       getD-row 0 (taskCount s) (entry (replicate (taskCount s) (everyCore (coreCount s)))) k h few
       ∙ getD-replicate (taskCount s) k (everyCore (coreCount s)) 0 h
+
+-- a row that is read from its front
+pub from-front : (affinity : List ℕ) (n : ℕ) {l : List ℕ} → l ≡ row 0 n (byteAt affinity 0) → l ≡ row 0 n (entry affinity)
+unfolding byteAt
+from-front affinity n e = e ∙ row-cong 0 n (byteAt affinity 0) (entry affinity) (λ k h. ap (entry affinity) (zero-add k))
 
 -- The fields that the readers decode.
 module _ (s : List ℕ) {g : Fields} {row16 : List ℕ} where

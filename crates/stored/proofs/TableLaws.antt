@@ -2,6 +2,7 @@
 use Prim.Native.Nat.{ℕ, _+_, _*_}
 use mathlib.Core.Path.{_≡_, refl, sym, _∙_, ap}
 use mathlib.Core.List.{List, [], _∷_, _++_}
+use mathlib.Core.Logic.{_↔_}
 use lib.ListN.{length}
 use native.Mathlib.Omega.{arith}
 use Rattle.numbers.proofs.BoundLaws.{less-exactly, unequal-exactly, not-unequal}
@@ -13,7 +14,7 @@ use Rattle.refusal.specs.declared.Outcome.the-variants.{Accepted}
 use Rattle.refusal.proofs.TestLaws.{then-accepted, then-assoc, inOrder-append}
 use Rattle.refusal.proofs.ConditionLaws.{Reports, test-only, _and_, then-reports, none-append, _also_, Tested, unnamed, unnamed-all, decides, accepts}
 use Rattle.taskset.specs.Tests.{sizeTests, limitTests}
-use Rattle.taskset.specs.Reading.{readingBy, taskSetOf}
+use Rattle.taskset.specs.Reading.{acceptedReading, readingBy, taskSetOf}
 use Rattle.taskset.specs.Limits.{Sized, sizes, chargeAbove, periodOutside, budgetOutside, costAbove, rowOther, affinityUnfit, multipleAbove, limits, Reads}
 use Rattle.taskset.specs.declared.Fields.{Fields}
 use Rattle.taskset.specs.declared.Reading.{Reading}
@@ -57,6 +58,14 @@ module _ (s : List ℕ) (charge : ℕ) (affinity : List ℕ) where
       ),
     );
   }
+
+  -- the tests accept exactly a valid table, whose reading is the task set of its fields
+  pub table-accepts : (tableOutcome s charge affinity ≡ Accepted) ↔ Valid s charge affinity
+  table-accepts = accepts (decides table-tested)
+
+  pub valid-reading : Valid s charge affinity → readingOf s charge affinity ≡ acceptedReading (fieldsOf s charge affinity)
+  unfolding readingOf readingBy
+  valid-reading v = rw (table-accepts .1 v)
 
   pub reading-decides : Decides (Valid s charge affinity) (conditions s charge affinity) (readingOf s charge affinity .outcome)
   unfolding readingOf
@@ -112,7 +121,7 @@ module _ (s : List ℕ) (charge : ℕ) (affinity : List ℕ) {r : Reading} (e : 
 
   pub read-reads : Reads r
   unfolding readingOf
-  read-reads = rw e (reading-promised (fieldsOf s charge affinity) (tableOutcome s charge affinity) (λ q. accepts (decides (table-tested s charge affinity)) .0 q .fields))
+  read-reads = rw e (reading-promised (fieldsOf s charge affinity) (tableOutcome s charge affinity) (λ q. table-accepts s charge affinity .0 q .fields))
 
 -- and for a table that is read by itself
 pub read-alone : (s : List ℕ) {r : Reading} → r ≡ readingOf s 0 (everyAffinity s) → Decides (Valid s 0 (everyAffinity s)) (tableConditions s) (r .outcome)

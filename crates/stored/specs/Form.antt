@@ -1,11 +1,12 @@
 -- The stored table: the sizes first, then two parallel arrays.
-use Prim.Native.Nat.{ℕ, _+_, _*_, _≤_}
+use Prim.Native.Nat.{ℕ, _+_, _*_, _≤_, _<_}
 use mathlib.Core.Path.{_≡_}
 use mathlib.Core.List.{List, _∷_, _++_}
-use lib.ListN.{length, getD, replicate}
+use lib.ListN.{length, getD, take, replicate}
 use Rattle.numbers.specs.Rows.{row, entry, padded}
-use Rattle.wire.specs.Bytes.{wordAt, bytesOfAll, Words}
+use Rattle.wire.specs.Bytes.{le32, wordAt, bytesOfAll, Words}
 use Rattle.affinity.specs.Permitted.{everyCore}
+use Rattle.taskset.specs.Fields.{periodAt, budgetAt}
 use Rattle.taskset.specs.declared.Fields.{Fields}
 
 -- byte 0: the number of tasks, n
@@ -41,9 +42,24 @@ everyAffinity s = replicate (taskCount s) (everyCore (coreCount s))
 abbrev pub fieldsAlone : List ℕ → Fields
 fieldsAlone s = fieldsOf s 0 (everyAffinity s)
 
--- the bytes of a table of m cores
+-- the bytes of a table of n tasks and m cores
+abbrev pub tableWith : ℕ → ℕ → List ℕ → List ℕ → List ℕ
+tableWith n m periods budgets = n ∷ m ∷ (bytesOfAll periods ++ bytesOfAll budgets)
+
+-- the same for as many tasks as there are periods
 abbrev pub tableOf : ℕ → List ℕ → List ℕ → List ℕ
-tableOf m periods budgets = length periods ∷ m ∷ (bytesOfAll periods ++ bytesOfAll budgets)
+tableOf m periods budgets = tableWith (length periods) m periods budgets
+
+-- the bytes of fields in this form, which has no place for charge and core bytes
+unfoldable pub tableBytes : Fields → List ℕ
+tableBytes f = tableWith (f .n) (f .m) (take (f .n) (f .periods)) (take (f .n) (f .budgets))
+
+-- A list that begins with these fields in the old form: each stands where the paper has it.
+pub record OldForm (f : Fields) (s : List ℕ) : Type 0 where
+  pub tasks : getD s 0 0 ≡ f .n
+  pub cores : getD s 1 0 ≡ f .m
+  pub periods : (k : ℕ) → k < f .n → le32 s (2 + 4 * k) ≡ periodAt f k
+  pub budgets : (k : ℕ) → k < f .n → le32 s (2 + 4 * f .n + 4 * k) ≡ budgetAt f k
 
 -- The fields of a table made of sizes, periods and budgets, with a charge and core bytes beside it, are these, with zeros up to sixteen.
 abbrev pub FieldsReadBack : Type 0

@@ -5,7 +5,6 @@ ghost use lib.ListN.{replicate};
 ghost use Rattle.numbers.specs.Rows.{row, entry};
 ghost use Rattle.refusal.specs.Tests.{inOrder, _then_};
 ghost use Rattle.refusal.specs.Conditions.{Decides};
-ghost use Rattle.wire.specs.Bytes.{wordAt};
 ghost use Rattle.taskset.specs.Tests.{sizeTests};
 ghost use Rattle.taskset.specs.Limits.{Reads};
 ghost use mathlib.Core.List.{_∷_};
@@ -16,37 +15,6 @@ use refusal::Cause;
 use refusal::Outcome;
 use taskset::Fields;
 use taskset::Reading;
-
-// The first `n` numbers of `s` from `at`, at most sixteen, and zeros up to sixteen.
-fn words(s: &[u8], at: usize, n: usize) -> [u32; 16]
-    requires { ⌜ at < 2048 ⌝ }
-    ensures { λ r. ⌜ r ≡ row 0 n (wordAt (now (s .entry)) at) ⌝ }
-{
-    let count = numbers::at_most_sixteen(n);
-    let mut entries = [0u32; 16];
-    let mut k = 0;
-    while k < count {
-        let next = numbers::with_number(entries, k, wire::word(s, at + 4 * k));
-        entries = next;
-        k += 1;
-    }
-    entries
-}
-
-// The first `n` bytes of `s`, at most sixteen, and zeros up to sixteen.
-fn bytes(s: &[u8], n: usize) -> [u8; 16]
-    ensures { λ r. ⌜ r ≡ row 0 n (entry (now (s .entry))) ⌝ }
-{
-    let count = numbers::at_most_sixteen(n);
-    let mut entries = [0u8; 16];
-    let mut k = 0;
-    while k < count {
-        let next = numbers::with_byte(entries, k, wire::byte(s, k));
-        entries = next;
-        k += 1;
-    }
-    entries
-}
 
 // A byte `n` times, at most sixteen, and zeros up to sixteen.
 fn repeated(byte: u8, n: usize) -> [u8; 16]
@@ -83,8 +51,8 @@ fn decode(s: &[u8], charge: u32, affinity: [u8; 16], given: usize) -> Fields
 {
     let n = task_count(s);
     let m = core_count(s);
-    let periods = words(s, 2, n);
-    let budgets = words(s, 2 + 4 * n, n);
+    let periods = wire::words(s, 2, n);
+    let budgets = wire::words(s, 2 + 4 * n, n);
     Fields {
         n: n,
         m: m,
@@ -128,7 +96,7 @@ pub fn read_beside(table: &[u8], charge: u32, affinity: &[u8]) -> Reading
     ensures decides { λ r. ⌜ Decides (Valid (now (table .entry)) charge (now (affinity .entry))) (conditions (now (table .entry)) charge (now (affinity .entry))) (r .outcome) ⌝ }
     ensures reads { λ r. ⌜ Reads r ⌝ }
 {
-    let row = bytes(affinity, task_count(table));
+    let row = wire::bytes(affinity, 0, task_count(table));
     let f = decode(table, charge, row, affinity.len());
     let shape = shape_tests(table, f);
     taskset::check_after(shape, f)

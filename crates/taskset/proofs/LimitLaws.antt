@@ -3,13 +3,15 @@ use Prim.Native.Nat.{ℕ, _+_, _-_, _≤_, _<_}
 use mathlib.Core.Path.{_≡_, refl, sym, _∙_}
 use mathlib.Core.Bool.{true, false, true≢false}
 use mathlib.Core.Logic.{_↔_, ⊎-elim}
+use lib.ListN.{length}
 use native.Mathlib.Omega.{arith}
 use borrow.Author.Tests.{ltb-true, lt-ltb}
 use Rattle.numbers.proofs.BoundLaws.{outside-exactly, not-outside, less-exactly, not-less, unequal-exactly, not-unequal}
 use Rattle.numbers.proofs.MultipleLaws.{lcms-exactly}
 use Rattle.numbers.proofs.BoolLaws.{true-or-false}
+use Rattle.numbers.proofs.RowLaws.{entries-there}
 use Rattle.affinity.specs.Permitted.{unfit, Unfit, everyCore}
-use Rattle.affinity.proofs.PermittedLaws.{unfit-says, fit-byte, fit-not, every-fits}
+use Rattle.affinity.proofs.PermittedLaws.{unfit-says, fit-byte, fit-not, fit-some, every-fits}
 use Rattle.refusal.specs.Tests.{inOrder}
 use Rattle.refusal.specs.Conditions.{Fails, None}
 use Rattle.refusal.specs.declared.Cause.the-variants.{TaskCount, CoreCount, Period, Budget, Hyperperiod, Charge, Cost, Affinity}
@@ -124,3 +126,14 @@ module _ (f : Fields) where
 
   pub affinity-every : Sized f → ((k : ℕ) → k < f .n → affinityAt f k ≡ everyCore (f .m)) → Fails (affinityUnfit f)
   affinity-every z every k h = rw (every k h) (fit-fails (everyCore (f .m)) (f .m) (every-fits (f .m) (z .cores .0) (z .cores .1)))
+
+-- Fields within the limits have an entry for each task.
+module _ (f : Fields) (w : Within f) where
+  pub periods-there : f .n ≤ length (f .periods)
+  periods-there = entries-there (f .n) (f .periods) (λ k h. w .periods k h .0)
+
+  pub budgets-there : f .n ≤ length (f .budgets)
+  budgets-there = entries-there (f .n) (f .budgets) (λ k h. w .budgets k h .0)
+
+  pub affinity-there : f .n ≤ length (f .affinity)
+  affinity-there = entries-there (f .n) (f .affinity) (λ k h. fit-some (f .m) (affinityAt f k) (w .affinities k h))

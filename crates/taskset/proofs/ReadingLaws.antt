@@ -1,12 +1,16 @@
 -- What a reading says, by the outcome of the tests that it goes by.
 use Prim.Native.Nat.{_≤_}
 use mathlib.Core.Path.{_≡_, refl, sym, _∙_, ap}
+use mathlib.Core.Logic.{⊎-elim}
+use native.Mathlib.Omega.{arith}
+use Rattle.refusal.specs.Causes.{numberIn}
 use Rattle.refusal.specs.Tests.{_then_, inOrder}
 use Rattle.refusal.specs.Conditions.{Decides}
 use Rattle.refusal.specs.declared.Cause.{Cause}
 use Rattle.refusal.specs.declared.Outcome.{Outcome}
 use Rattle.refusal.specs.declared.Outcome.the-variants.{Accepted, Refused}
-use Rattle.refusal.proofs.TestLaws.{accepted≢refused, then-first, then-refused, inOrder-append}
+use Rattle.refusal.proofs.CauseLaws.{number-range}
+use Rattle.refusal.proofs.TestLaws.{accepted≢refused, outcome-cases, then-first, then-refused, inOrder-append}
 use Rattle.refusal.proofs.ConditionLaws.{decides, accepts}
 use Rattle.taskset.specs.Tests.{sizeTests, limitTests, fieldsOutcome}
 use Rattle.taskset.specs.Reading.{taskSetOf, noTasks, refusedReading, acceptedReading, readingBy, checkOf}
@@ -50,6 +54,14 @@ module _ {r : Reading} {o : Outcome} (p : Reads r) (e : r .outcome ≡ o) (q : o
 
   pub reading-few : r .tasks .fields .n ≤ 16
   reading-few = p .checked (e ∙ q) .within .sizes .tasks .1
+
+-- a reading has at most sixteen tasks: none if it is refused
+pub reads-few : (r : Reading) → Reads r → r .tasks .fields .n ≤ 16
+reads-few r s =
+    ⊎-elim
+    (λ e. s .checked e .within .sizes .tasks .1)
+    (λ e. omega (arith, s .refused (λ z. omega (arith, number-range (e .0), ap numberIn (e .1), z)) .tasks))
+    (outcome-cases (r .outcome))
 
 -- ---- the steps of the programs
 

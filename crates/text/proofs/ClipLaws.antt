@@ -17,13 +17,13 @@ take-again (suc n) (x ∷ xs) ys = ap (λ l. x ∷ l) (take-again n xs ys)
 -- a second piece: what was dropped before does not matter
 clip-more : (xs ys zs : List ℕ) → clip (clip (xs ++ ys) ++ zs) ≡ clip (xs ++ (ys ++ zs))
 unfolding clip
-clip-more xs ys zs = take-again 2048 (xs ++ ys) zs ∙ ap (take 2048) (append-assoc xs ys zs)
+clip-more xs ys zs = take-again 2560 (xs ++ ys) zs ∙ ap (take 2560) (append-assoc xs ys zs)
 
 -- nothing more, of a text whose bytes are as many as its type says
-pub append-none : (t : Text) → length (t .bytes) ≡ 2048 → Appended t [] 0 t
+pub append-none : (t : Text) → length (t .bytes) ≡ 2560 → Appended t [] 0 t
 unfolding shown clip
 append-none t l = record {
-  is = rw append-nil (sym (take-all 2048 (take (t .length) (t .bytes)) (simp length-take (omega arith))));
+  is = rw append-nil (sym (take-all 2560 (take (t .length) (t .bytes)) (simp length-take (omega arith))));
   few = omega arith;
 }
 
@@ -39,25 +39,25 @@ pub append-within : {t r : Text} {xs : List ℕ} {i : ℕ} (j : ℕ) → Appende
 append-within j p h = record { is = p .is; few = omega (arith, p .few) }
 
 -- a piece that fits, after a text that shows nothing, is shown whole
-pub append-whole : {t r : Text} {xs : List ℕ} {i : ℕ} → shown t ≡ [] → Appended t xs i r → i ≤ 2048 → shown r ≡ xs
+pub append-whole : {t r : Text} {xs : List ℕ} {i : ℕ} → shown t ≡ [] → Appended t xs i r → i ≤ 2560 → shown r ≡ xs
 unfolding clip
-append-whole {xs = xs} e p h = p .is ∙ rw e (take-all 2048 xs (omega (arith, p .few)))
+append-whole {xs = xs} e p h = p .is ∙ rw e (take-all 2560 xs (omega (arith, p .few)))
 
 -- The steps of `append_byte`.
-pub byte-dropped : (t : Text) (b : ℕ) → length (t .bytes) ≡ 2048 → 2048 ≤ t .length → Appended t (b ∷ []) 1 t
+pub byte-dropped : (t : Text) (b : ℕ) → length (t .bytes) ≡ 2560 → 2560 ≤ t .length → Appended t (b ∷ []) 1 t
 unfolding shown clip
 byte-dropped t b l h =
     let whole : take (t .length) (t .bytes) ≡ t .bytes = take-all (t .length) (t .bytes) (omega arith) in
-    record { is = rw whole (sym (take-at (t .bytes) (b ∷ []) 2048 l)); few = omega arith }
+    record { is = rw whole (sym (take-at (t .bytes) (b ∷ []) 2560 l)); few = omega arith }
 
-pub byte-kept : (t : Text) (b : ℕ) → length (t .bytes) ≡ 2048 → t .length < 2048
+pub byte-kept : (t : Text) (b : ℕ) → length (t .bytes) ≡ 2560 → t .length < 2560
     → Appended t (b ∷ []) 1 (record { bytes = set (t .bytes) (t .length) b; length = t .length + 1 })
 unfolding shown clip
 byte-kept t b l h =
-    let fits : length (take (t .length) (t .bytes) ++ b ∷ []) ≤ 2048 = simp (length-append, length-take) (omega arith) in
+    let fits : length (take (t .length) (t .bytes) ++ b ∷ []) ≤ 2560 = simp (length-append, length-take) (omega arith) in
     let room : t .length < length (t .bytes) = omega arith in
     record {
-      is = rw (add-one, take-suc-set (t .bytes) (t .length) b room, take-all 2048 _ fits);
+      is = rw (add-one, take-suc-set (t .bytes) (t .length) b room, take-all 2560 _ fits);
       few = omega arith;
     }
 
@@ -66,7 +66,7 @@ pub record Spelled (t : Text) (piece : List ℕ) (r : Text) (i : ℕ) : Type 0 w
   pub top : i ≤ length piece
   pub is : Appended t (take i piece) i r
 
-pub spell-start : (t : Text) (piece : List ℕ) → length (t .bytes) ≡ 2048 → Spelled t piece t 0
+pub spell-start : (t : Text) (piece : List ℕ) → length (t .bytes) ≡ 2560 → Spelled t piece t 0
 spell-start t piece l = record { top = omega arith; is = append-none t l }
 
 pub spell-next : {t : Text} {piece : List ℕ} {r next : Text} {i : ℕ} → Spelled t piece r i → i < length piece

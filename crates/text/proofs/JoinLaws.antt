@@ -1,4 +1,4 @@
--- A loop that appends a piece for each of sixteen elements.
+-- A loop that appends a piece for each of n elements.
 use Prim.Native.Nat.{ℕ, _+_, _*_, _≤_, _<_}
 use mathlib.Core.Path.{_≡_, sym, _∙_, ap}
 use mathlib.Core.List.{List, [], _∷_, _++_, append-assoc, append-nil}
@@ -17,17 +17,17 @@ joined-more piece [] y = append-nil (piece y)
 joined-more piece (x ∷ xs) y = ap (λ l. piece x ++ l) (joined-more piece xs y) ∙ sym (append-assoc (piece x) (joined piece xs) (piece y))
 
 -- the pieces of the first k elements are there
-pub record Joined {A : Type 0} (piece : A → List ℕ) (most : ℕ) (t : Text) (l : List A) (r : Text) (k : ℕ) : Type 0 where
-  pub size : length l ≡ 16
-  pub top : k ≤ 16
+pub record Joined {A : Type 0} (piece : A → List ℕ) (most n : ℕ) (t : Text) (l : List A) (r : Text) (k : ℕ) : Type 0 where
+  pub size : length l ≡ n
+  pub top : k ≤ n
   pub is : Appended t (joined piece (take k l)) (most * k) r
 
-pub join-start : {A : Type 0} (piece : A → List ℕ) (most : ℕ) (t : Text) (l : List A) → length (t .bytes) ≡ 2048 → length l ≡ 16 → Joined piece most t l t 0
+pub join-start : {A : Type 0} (piece : A → List ℕ) (most n : ℕ) (t : Text) (l : List A) → length (t .bytes) ≡ 2560 → length l ≡ n → Joined piece most n t l t 0
 unfolding joined
-join-start piece most t l b h = record { size = h; top = omega arith; is = append-within (most * 0) (append-none t b) (omega arith) }
+join-start piece most n t l b h = record { size = h; top = omega arith; is = append-within (most * 0) (append-none t b) (omega arith) }
 
-module _ {A : Type 0} {piece : A → List ℕ} {most : ℕ} {t : Text} {l : List A} {r : Text} {k : ℕ} where
-  pub join-next : (d : A) {next : Text} → Joined piece most t l r k → k < 16 → Appended r (piece (getD l k d)) most next → Joined piece most t l next (k + 1)
+module _ {A : Type 0} {piece : A → List ℕ} {most n : ℕ} {t : Text} {l : List A} {r : Text} {k : ℕ} where
+  pub join-next : (d : A) {next : Text} → Joined piece most n t l r k → k < n → Appended r (piece (getD l k d)) most next → Joined piece most n t l next (k + 1)
   join-next d s h p = record {
     size = s .size;
     top = omega arith;
@@ -37,8 +37,8 @@ module _ {A : Type 0} {piece : A → List ℕ} {most : ℕ} {t : Text} {l : List
         rw more (append-within (most * (k + 1)) (append-both (s .is) p) (omega arith));
   }
 
-  pub join-done : (bound : ℕ) → Joined piece most t l r k → 16 ≤ k → most * 16 ≤ bound → Appended t (joined piece l) bound r
+  pub join-done : (bound : ℕ) → Joined piece most n t l r k → n ≤ k → most * n ≤ bound → Appended t (joined piece l) bound r
   join-done bound s h b =
-      let e : k ≡ 16 = omega (arith, s .top) in
-      let whole : take 16 l ≡ l = take-all 16 l (omega (arith, s .size)) in
+      let e : k ≡ n = omega (arith, s .top) in
+      let whole : take n l ≡ l = take-all n l (omega (arith, s .size)) in
       append-within bound (rw whole at (rw e at (s .is))) b

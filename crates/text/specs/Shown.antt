@@ -11,7 +11,7 @@ shown t = take (t .length) (t .bytes)
 
 -- as much of a list as a text holds
 unfoldable pub clip : List ℕ → List ℕ
-clip l = take 2048 l
+clip l = take 2560 l
 
 -- The text r is t with a piece after it, as far as that fits; the piece has at most so many bytes.
 pub record Appended (t : Text) (piece : List ℕ) (most : ℕ) (r : Text) : Type 0 where

@@ -8,7 +8,7 @@ ghost use Rattle.text.specs.Decimal.{decimal, field};
 
 // The first `length` bytes are shown.
 pub struct Text {
-    pub bytes: [u8; 2048],
+    pub bytes: [u8; 2560],
     pub length: usize,
 }
 
@@ -16,7 +16,7 @@ pub fn empty() -> Text
     ensures { λ r. ⌜ shown r ≡ [] ⌝ }
 {
     Text {
-        bytes: [0; 2048],
+        bytes: [0; 2560],
         length: 0,
     }
 }
@@ -26,7 +26,7 @@ pub fn append_byte(t: Text, b: u8) -> Text
     ensures { λ r. ⌜ Appended t (b ∷ []) 1 r ⌝ }
 {
     let at = t.length;
-    if 2048 <= at {
+    if 2560 <= at {
         return t;
     }
     let mut next = t;

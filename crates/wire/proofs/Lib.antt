@@ -1,2 +1,4 @@
 pub mod ByteLaws
 pub mod ReadBackLaws
+pub mod LentLaws
+pub mod WriteBackLaws

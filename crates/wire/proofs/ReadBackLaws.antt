@@ -1,10 +1,10 @@
 -- Numbers of 32 bits are read back from their bytes.
-use Prim.Native.Nat.{ℕ, zero, suc, _+_, _*_, _/_, _%_, _<_}
+use Prim.Native.Nat.{ℕ, zero, suc, _+_, _*_, _/_, _%_, _≤_, _<_}
 use mathlib.Core.Path.{_≡_, refl, _∙_, ap}
 use mathlib.Core.List.{List, [], _∷_, _++_}
 use native.Mathlib.Nat.{div-add-mod, div-div-eq-div-mul, div-lt-iff-lt-mul, mod-eq-of-lt}
 use native.Mathlib.Omega.{arith}
-use lib.ListN.{length, getD}
+use lib.ListN.{length, getD, List·getD-append}
 use lib.Seq.{getD-append-add}
 use Rattle.wire.specs.Bytes.{le32, wordAt, bytesOf, bytesOfAll, ReadBack, Words}
 
@@ -56,3 +56,11 @@ read-back xs w = record { each = λ front behind k h. word-behind front (bytesOf
 pub length-bytes : (xs : List ℕ) → length (bytesOfAll xs) ≡ 4 * length xs
 length-bytes [] = refl
 length-bytes (x ∷ xs) = omega (arith, length-bytes xs)
+
+-- what stands behind does not matter either
+pub byte-front : (s behind : List ℕ) (at : ℕ) → at < length s → getD (s ++ behind) at 0 ≡ getD s at 0
+byte-front s behind at h = List·getD-append s behind 0 at h
+
+pub word-front : (s behind : List ℕ) (at : ℕ) → at + 4 ≤ length s → le32 (s ++ behind) at ≡ le32 s at
+word-front s behind at h =
+    rw (byte-front s behind at (omega arith), byte-front s behind (at + 1) (omega arith), byte-front s behind (at + 2) (omega arith), byte-front s behind (at + 3) (omega arith))

@@ -2,7 +2,7 @@
 use Prim.Native.Nat.{ℕ, _+_, _*_, _/_, _%_, _<_}
 use mathlib.Core.Path.{_≡_}
 use mathlib.Core.List.{List, [], _∷_, _++_}
-use lib.ListN.{length, getD}
+use lib.ListN.{length, getD, take, drop}
 
 -- the number in the four bytes of s from `at`
 abbrev pub le32 : List ℕ → ℕ → ℕ
@@ -11,6 +11,10 @@ le32 s at = getD s at 0 + 256 * getD s (at + 1) 0 + 65536 * getD s (at + 2) 0 + 
 -- number k, from 0, of those that stand one after another in s from `at`
 unfoldable pub wordAt : List ℕ → ℕ → ℕ → ℕ
 wordAt s at k = le32 s (at + 4 * k)
+
+-- byte k, from 0, of those that stand in s from `at`
+unfoldable pub byteAt : List ℕ → ℕ → ℕ → ℕ
+byteAt s at k = getD s (at + k) 0
 
 -- the four bytes of a number
 abbrev pub bytesOf : ℕ → List ℕ
@@ -29,3 +33,11 @@ pub record ReadBack (xs : List ℕ) : Type 0 where
 abbrev pub Words : List ℕ → Type 0
 Words [] = Unit {0}
 Words (x ∷ xs) = (x < 4294967296) × Words xs
+
+-- every number is a byte; those past the end count as 0
+abbrev pub Bytes : List ℕ → Type 0
+Bytes s = (k : ℕ) → getD s k 0 < 256
+
+-- a lent output in which the bytes vs stand from `at` on; every other byte is what it was
+unfoldable pub over : List ℕ → ℕ → List ℕ → List ℕ
+over out at vs = take at out ++ vs ++ drop (at + length vs) out

@@ -11,6 +11,7 @@
 
 A further call is a further module, named here."""
 
-from calls import ceiling, core, plan, quick, read, tick
+from calls import (ceiling, core, plan, quick, read, read_setup, tick, to_new, to_old,
+                   write_setup)
 
-CALLS = [read, plan, core, tick, quick, ceiling]
+CALLS = [read, plan, core, tick, quick, ceiling, read_setup, write_setup, to_new, to_old]

@@ -1,5 +1,5 @@
 -- A reading has at most sixteen tasks.
-use Rattle.cases.proofs.OrderLaws.{reads-few}
+use Rattle.taskset.proofs.ReadingLaws.{reads-few}
 use borrow.Author.Needs.{needs}
 use Rattle.cases.proofs.run_table.Statement.{statement}
 use Rattle.cases.proofs.run_table.Tie as tie

@@ -5,10 +5,10 @@ use Rattle.console.proofs.write_bytes.Statement.{statement}
 use Rattle.console.proofs.write_bytes.Tie as tie
 
 abbrev Inv-loop : tie.InvT-loop
-Inv-loop bytes n done₀ done = done ≤ n
+Inv-loop output bytes n done₀ done = done ≤ n
 
 abbrev μ-loop : tie.MeasureT-loop
-μ-loop bytes n done₀ done = n - done
+μ-loop output bytes n done₀ done = n - done
 
 pub write-bytes-spec : {M : Type 1} → statement M
 write-bytes-spec =

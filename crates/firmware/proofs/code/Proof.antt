@@ -1,4 +1,4 @@
--- Each verdict has its number; a refusal's is at most 112.
+-- Each verdict has its number; a refusal's is at most 118.
 use Rattle.firmware.proofs.CallLaws.{code-fits, code-refused}
 use borrow.Author.Needs.{needs}
 use Rattle.firmware.proofs.code.Statement.{statement}

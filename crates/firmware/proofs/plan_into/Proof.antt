@@ -1,22 +1,28 @@
 -- A refusal leaves the buffer; otherwise code and buffer are those of the plan.
-use Rattle.firmware.proofs.CallLaws.{read-well, call-few, call-room, call-refused, call-planned}
+use Rattle.firmware.proofs.CallLaws.{both-well, call-fits, call-refused, call-planned}
 use borrow.Author.Needs.{needs}
 use Rattle.firmware.proofs.plan_into.Statement.{statement}
 use Rattle.firmware.proofs.plan_into.Tie as tie
 
+-- in either order of the two tests the reading is accepted: a wrong order is refused for its answer
 plan-tasks-requires : tie.Need-plan-tasks-requires
-plan-tasks-requires c κs = c .before .before .before .before .read-table .ensures .1 .1 .checked (read-well _ _ (c .before .before .then .ensures) (cc))
+plan-tasks-requires c κs =
+    let both = both-well _ _ (c .before .before .then .ensures) (cc) in
+    c .before .before .before .before .read-setup .ensures .1 .1 .0 .checked (search (both .0, both .1))
+
+put-bytes-requires : tie.Need-put-bytes-requires
+put-bytes-requires c κs = call-fits _ _ (c .before .before .before .before .before .before .before .read-setup .ensures .0) (c .before .before .before .before .before .before .buffer-test .ensures) (c .before .before .before .before .before .then .ensures) (c .before .before .before .enum-told .given .1)
 
 returns : tie.Need-returns
 returns c =
-    call-refused _ _ _ (c .before .before .before .before .before .before .read-table .ensures .0) (c .before .before .before .before .before .buffer-test .ensures) (c .before .before .before .before .then .ensures) (c .before .before .outcome .given .1) (c .code .ensures)
+    call-refused _ _ _ (c .before .before .before .before .before .before .read-setup .ensures .0) (c .before .before .before .before .before .buffer-test .ensures) (c .before .before .before .before .then .ensures) (c .before .before .outcome .given .1) (c .code .ensures)
 
 returns-2 : tie.Need-returns-2
 returns-2 c =
-    call-planned _ _ _ (c .before .before .before .before .before .before .before .before .before .before .before .read-table .ensures .0) (c .before .before .before .before .before .before .before .before .before .before .buffer-test .ensures) (c .before .before .before .before .before .before .before .before .before .then .ensures) (cc) (c .before .before .before .before .before .before .plan-tasks .ensures) (c .code2 .ensures) (c .before .before .before .write-front .ensures)
+    call-planned _ _ _ (c .before .before .before .before .before .before .before .before .before .before .before .read-setup .ensures .0) (c .before .before .before .before .before .before .before .before .before .before .buffer-test .ensures) (c .before .before .before .before .before .before .before .before .before .then .ensures) (cc) (c .before .before .before .before .before .before .plan-tasks .ensures) (c .code2 .ensures) (c .before .before .before .put-bytes .ensures)
 
 pub plan-into-spec : {M : Type 1} → statement M
 plan-into-spec =
     tie.close (tie.spec (λ c κs. search needs) (λ c κs. search needs) (λ c κs. search needs) (λ c. search needs)
-    (λ c κs. search needs) (λ c. search needs) plan-tasks-requires (λ c κs. search (needs, call-few, call-room))
+    (λ c κs. search needs) (λ c. search needs) plan-tasks-requires put-bytes-requires
     (λ c κs. search needs) returns (λ c. search needs) returns-2)

@@ -1,4 +1,4 @@
--- Four numbers.
+-- Six numbers.
 use Rattle.listing.proofs.LineLaws.{task-made}
 use borrow.Author.Needs.{needs}
 use Rattle.listing.proofs.append_task.Statement.{statement}
@@ -7,4 +7,5 @@ use Rattle.listing.proofs.append_task.Tie as tie
 pub append-task-spec : {M : Type 1} → statement M
 append-task-spec =
     tie.close (tie.spec (λ c κs. search needs) (λ c κs. search needs) (λ c κs. search needs) (λ c κs. search needs)
-    (λ c. search needs) (λ c κs. search needs) (λ c. search (needs, task-made)))
+    (λ c κs. search needs) (λ c. search needs) (λ c κs. search needs) (λ c κs. search needs) (λ c. search needs)
+    (λ c κs. search needs) (λ c. search needs) (λ c κs. search needs) (λ c. search (needs, task-made)))

@@ -14,5 +14,6 @@ abbrev μ-loop : tie.MeasureT-loop
 pub append-tasks-spec : {M : Type 1} → statement M
 append-tasks-spec =
     tie.close (tie.spec Inv-loop μ-loop (λ c. search (needs, lines-start)) (λ c. search needs) (λ c. search needs)
-    (λ c. search needs) (λ c. search needs) (λ c. search needs) (λ c. search needs) (λ c κs. search needs)
-    (λ c. search needs) (λ c. search needs) (λ c. search (needs, lines-next)) (λ c. search (needs, lines-done)))
+    (λ c. search needs) (λ c. search needs) (λ c. search needs) (λ c. search needs) (λ c. search needs)
+    (λ c κs. search needs) (λ c. search needs) (λ c. search needs) (λ c. search (needs, lines-next))
+    (λ c. search (needs, lines-done)))

@@ -1,6 +1,6 @@
 -- The bytes are decoded with the core bytes that are given, their shape is tested, then the limits of the fields.
 use mathlib.Core.Path.{refl}
-use Rattle.stored.proofs.FormLaws.{fields-beside}
+use Rattle.stored.proofs.FormLaws.{fields-beside, from-front}
 use Rattle.stored.proofs.TableLaws.{shape-says, read-answer, read-decides, read-reads}
 use borrow.Author.Needs.{needs}
 use Rattle.stored.proofs.read_beside.Statement.{statement}
@@ -10,14 +10,14 @@ check-after-requires : tie.Need-check-after-requires
 check-after-requires c κs =
     let row = c .before .before in
     let args = row .before .before .before .before .args in
-    let f = fields-beside (args .table .now) _ (args .affinity .now) (c .before .decode .ensures) (row .bytes .ensures) (row .before .task-count .ensures .0) refl in
+    let f = fields-beside (args .table .now) _ (args .affinity .now) (c .before .decode .ensures) (from-front (args .affinity .now) _ (row .bytes .ensures)) (row .before .task-count .ensures .0) refl in
     shape-says _ _ _ f (c .shape-tests .ensures)
 
 returns : tie.Need-returns
 returns c =
     let row = c .before .before .before in
     let args = row .before .before .before .before .args in
-    let f = fields-beside (args .table .now) _ (args .affinity .now) (c .before .before .decode .ensures) (row .bytes .ensures) (row .before .task-count .ensures .0) refl in
+    let f = fields-beside (args .table .now) _ (args .affinity .now) (c .before .before .decode .ensures) (from-front (args .affinity .now) _ (row .bytes .ensures)) (row .before .task-count .ensures .0) refl in
     let e = read-answer _ _ _ f (c .before .shape-tests .ensures) (c .check-after .ensures) in
     (e, (read-decides _ _ _ e, read-reads _ _ _ e))
 

@@ -3,8 +3,8 @@ use native.Mathlib.Omega.{arith}
 use Prim.Native.Nat.{_-_}
 use lib.ListN.{replicate}
 use Rattle.numbers.specs.Rows.{entry}
-use Rattle.numbers.proofs.RowLaws.{Filled, fill-start, fill-with}
-use Rattle.stored.proofs.FormLaws.{fill-most, same-byte}
+use Rattle.numbers.proofs.RowLaws.{Filled, fill-start, fill-with, fill-most}
+use Rattle.stored.proofs.FormLaws.{same-byte}
 use borrow.Author.Needs.{needs}
 use Rattle.stored.proofs.repeated.Statement.{statement}
 use Rattle.stored.proofs.repeated.Tie as tie

@@ -7,7 +7,7 @@ use Rattle.cases.proofs.lines.append_row.Statement.{statement}
 use Rattle.cases.proofs.lines.append_row.Tie as tie
 
 abbrev Inv-loop : tie.InvT-loop
-Inv-loop row longer₀ k₀ longer k = Joined field 21 longer₀ row longer k
+Inv-loop row longer₀ k₀ longer k = Joined field 21 16 longer₀ row longer k
 
 abbrev μ-loop : tie.MeasureT-loop
 μ-loop row longer₀ k₀ longer k = 16 - k

@@ -7,7 +7,7 @@ use Rattle.cases.proofs.lines.append_slots.Statement.{statement}
 use Rattle.cases.proofs.lines.append_slots.Tie as tie
 
 abbrev Inv-loop : tie.InvT-loop
-Inv-loop slots longer₀ k₀ longer k = Joined slotFields 84 longer₀ slots longer k
+Inv-loop slots longer₀ k₀ longer k = Joined slotFields 84 16 longer₀ slots longer k
 
 abbrev μ-loop : tie.MeasureT-loop
 μ-loop slots longer₀ k₀ longer k = 16 - k

@@ -1,0 +1,82 @@
+-- The two stored forms of a table, and the way between them: what W7 asks of the writer of the new form, the move from the old form and the move back.
+use Prim.Native.Nat.{ℕ, _+_, _*_, _≤_}
+use mathlib.Core.Path.{_≡_}
+use mathlib.Core.List.{List, _++_}
+use lib.ListN.{length, take, drop}
+use Rattle.wire.specs.Bytes.{Bytes}
+use Rattle.refusal.specs.Conditions.{Decides}
+use Rattle.refusal.specs.declared.Outcome.the-variants.{Accepted}
+use Rattle.taskset.specs.Fields.{cut, Alike}
+use Rattle.taskset.specs.Reading.{acceptedReading}
+use Rattle.taskset.specs.declared.Fields.{Fields}
+use Rattle.stored.specs.Form.{everyAffinity, fieldsOf, fieldsAlone, tableBytes, taskCount, OldForm}
+use Rattle.stored.specs.Tests.{readingOf}
+use Rattle.stored.specs.Limits.{Valid}
+use Rattle.setup.specs.Form as setup
+use Rattle.setup.specs.Form.{setupFields, NewForm}
+use Rattle.setup.specs.Tests.{setupReading}
+use Rattle.setup.specs.Limits.{ValidSetup}
+use Rattle.transfer.specs.Calls.{writeAnswer, writeOutput, newAnswer, newOutput, oldAnswer, oldOutput}
+use Rattle.transfer.specs.Limits.{ValidWrite, writeConditions, ValidNew, newConditions, ValidOld, oldConditions}
+use Rattle.transfer.specs.Promise.{Stores, storedIn, Yields}
+use Rattle.planner.specs.Plan.{planOf, setupPlan}
+use Rattle.quick.specs.Quick.{quickOf, setupQuick}
+use Rattle.firmware.specs.Call.{codeOf, codeFor, bufferAfter}
+
+-- the table that an accepted call left in front of an output: the writer, the move to the new form, the move back
+abbrev pub writtenIn : Fields → List ℕ → List ℕ
+writtenIn fields out = storedIn (writeAnswer fields (length out)) (writeOutput fields out)
+
+abbrev pub newIn : List ℕ → List ℕ → List ℕ
+newIn table out = storedIn (newAnswer table (length out)) (newOutput table out)
+
+abbrev pub oldIn : List ℕ → List ℕ → List ℕ
+oldIn table out = storedIn (oldAnswer table (length out)) (oldOutput table out)
+
+-- what stands beside a table of the new form once its sizes, periods and times are in the old one: its core bytes
+abbrev pub besideOf : List ℕ → List ℕ
+besideOf table = take (setup.taskCount table) (setupFields table .affinity)
+
+-- A call that is accepted: a table of bytes that the move takes to the new form, and one that the move takes back.
+pub record MovesOn (table out : List ℕ) : Type 0 where
+  pub bytes : Bytes table
+  pub accepted : newAnswer table (length out) .outcome ≡ Accepted
+
+pub record MovesBack (table out : List ℕ) : Type 0 where
+  pub bytes : Bytes table
+  pub accepted : oldAnswer table (length out) .outcome ≡ Accepted
+
+-- The laws of the two forms, over the definitions that the calls equal.
+pub record Forms : Type 0 where
+  -- Demand 1. A call within its limits is accepted; any other is refused with the number and place of the first condition that holds.
+  pub writes : (fields : Fields) (out : List ℕ) → Decides (ValidWrite fields (length out)) (writeConditions fields (length out)) (writeAnswer fields (length out) .outcome)
+  pub moves-on : (table out : List ℕ) → Decides (ValidNew table (length out)) (newConditions table (length out)) (newAnswer table (length out) .outcome)
+  pub moves-back : (table out : List ℕ) → Decides (ValidOld table (length out)) (oldConditions table (length out)) (oldAnswer table (length out) .outcome)
+  -- An accepted call puts its table in front of the lent output and leaves every byte behind it; a refused one leaves the whole output, and its length is 0.
+  pub written : (fields : Fields) (out : List ℕ) → Stores (NewForm fields) (4 + 9 * fields .n) out (writeAnswer fields (length out)) (writeOutput fields out)
+  pub moved-on : (table out : List ℕ) → Stores (NewForm (fieldsAlone table)) (4 + 9 * taskCount table) out (newAnswer table (length out)) (newOutput table out)
+  pub moved-back : (table out : List ℕ) → Stores (OldForm (setupFields table)) (2 + 8 * setup.taskCount table) out (oldAnswer table (length out)) (oldOutput table out)
+  -- Reading what the writer wrote gives its fields, with 0 beyond n; writing what was read gives the bytes.
+  pub read-back : (fields : Fields) (out : List ℕ) → writeAnswer fields (length out) .outcome ≡ Accepted → setupReading (writtenIn fields out) ≡ acceptedReading (cut fields)
+  pub write-back : (table : List ℕ) → Bytes table → ValidSetup table → Yields (writeAnswer (setupFields table)) (writeOutput (setupFields table)) table
+  -- The writer reads nothing beyond n: fields that are equal up to n give the same answer and output.
+  pub unread : (f g : Fields) → Alike f g → (out : List ℕ) → (writeAnswer g (length out) ≡ writeAnswer f (length out)) × (writeOutput g out ≡ writeOutput f out)
+  -- Old to new to old gives the same bytes, and so does new to old to new where the move back is accepted.
+  pub there-and-back : (table out : List ℕ) → MovesOn table out → Yields (oldAnswer (newIn table out)) (oldOutput (newIn table out)) table
+  pub back-and-there : (table out : List ℕ) → MovesBack table out → Yields (newAnswer (oldIn table out)) (newOutput (oldIn table out)) table
+  -- A moved table reads and plans as it did by itself, with charge 0 and every core permitted,
+  pub reads-alike : (table out : List ℕ) → MovesOn table out → setupReading (newIn table out) ≡ readingOf table 0 (everyAffinity table)
+  pub plans-alike : (table out : List ℕ) → MovesOn table out → (limit : ℕ) → setupPlan (newIn table out) limit ≡ planOf table 0 (everyAffinity table) limit
+  pub reads-alike-back : (table out : List ℕ) → MovesBack table out → readingOf (oldIn table out) 0 (everyAffinity (oldIn table out)) ≡ setupReading table
+  pub plans-alike-back : (table out : List ℕ) → MovesBack table out → (limit : ℕ) → planOf (oldIn table out) 0 (everyAffinity (oldIn table out)) limit ≡ setupPlan table limit
+  -- and the firmware is given that plan's code and core numbers, if its buffer has room for them.
+  pub code-alike : (table out : List ℕ) → MovesOn table out → (limit room : ℕ) → taskCount table ≤ room
+      → codeFor (newIn table out) limit room ≡ codeOf (planOf table 0 (everyAffinity table) limit .verdict)
+  pub buffer-alike : (table out : List ℕ) → MovesOn table out → (limit : ℕ) (buffer : List ℕ) → taskCount table ≤ length buffer
+      → bufferAfter (newIn table out) limit buffer ≡ take (taskCount table) (planOf table 0 (everyAffinity table) limit .placement) ++ drop (taskCount table) buffer
+  -- More than was asked: every table of the new form, with its charge and its core bytes beside it in the old form, is valid there, has the same fields,
+  -- and gets the same plans, so that what is said of the calls that keep the old form is said of it.
+  pub valid-beside : (table : List ℕ) → ValidSetup table → Valid (tableBytes (setupFields table)) (setup.chargeByte table) (besideOf table)
+  pub fields-beside : (table : List ℕ) → ValidSetup table → fieldsOf (tableBytes (setupFields table)) (setup.chargeByte table) (besideOf table) ≡ setupFields table
+  pub plans-beside : (table : List ℕ) → ValidSetup table → (limit : ℕ) → planOf (tableBytes (setupFields table)) (setup.chargeByte table) (besideOf table) limit ≡ setupPlan table limit
+  pub quick-beside : (table : List ℕ) → ValidSetup table → quickOf (tableBytes (setupFields table)) (setup.chargeByte table) (besideOf table) ≡ setupQuick table

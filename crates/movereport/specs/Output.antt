@@ -1,0 +1,35 @@
+-- The whole output of the programs `tonew` and `toold`, byte for byte.
+use Prim.Native.Nat.{ℕ}
+use mathlib.Core.Path.{_≡_}
+use mathlib.Core.List.{List, []}
+use Rattle.text.specs.Shown.{shown}
+use Rattle.refusal.specs.declared.Outcome.{Outcome}
+use Rattle.refusal.specs.declared.Outcome.the-variants.{Accepted, Refused}
+use Rattle.stored.specs.Form.{everyAffinity, fieldsAlone, tableBytes}
+use Rattle.stored.specs.Tests.{tableOutcome}
+use Rattle.setup.specs.Form.{setupFields, setupBytes}
+use Rattle.transfer.specs.Calls.{backOutcome}
+use Rattle.listing.specs.Printed.{printed}
+use Rattle.movereport.specs.declared.Moved.{Moved}
+
+-- The texts show these bytes, for standard output and for standard error.
+pub record Shows (bytes line : List ℕ) (r : Moved) : Type 0 where
+  pub table : shown (r .table) ≡ bytes
+  pub refusal : shown (r .refusal) ≡ line
+
+-- the bytes of the moved table, or none beside a refusal
+unfoldable pub movedBytes : Outcome → List ℕ → List ℕ
+movedBytes (Refused cause) bytes = []
+movedBytes Accepted bytes = bytes
+
+-- The output of a move by the outcome of the table's tests and its bytes in the other form: these bytes, or the line of the refusal.
+abbrev pub MoveOutput : Outcome → List ℕ → Moved → Type 0
+MoveOutput tests bytes r = Shows (movedBytes tests bytes) (printed tests []) r
+
+-- of `tonew`, for the bytes of a table in the old form
+abbrev pub NewOutput : List ℕ → Moved → Type 0
+NewOutput s r = MoveOutput (tableOutcome s 0 (everyAffinity s)) (setupBytes (fieldsAlone s)) r
+
+-- of `toold`, for the bytes of a table in the new form
+abbrev pub OldOutput : List ℕ → Moved → Type 0
+OldOutput s r = MoveOutput (backOutcome s) (tableBytes (setupFields s)) r

@@ -1,0 +1,18 @@
+-- Each cause has its place.
+use borrow.Author.Needs.{needs}
+use Rattle.refusal.proofs.CauseLaws.{place-of}
+use Rattle.refusal.proofs.place.Statement.{statement}
+use Rattle.refusal.proofs.place.Tie as tie
+
+pub place-spec : {M : Type 1} → statement M
+place-spec =
+    tie.close (tie.spec (λ c. search needs) (λ c. search needs) (λ c. search needs) (λ c. search needs)
+    (λ c. search needs) (λ c. search needs) (λ c. search needs) (λ c. search needs) (λ c. search needs)
+    (λ c. search needs) (λ c. search needs) (λ c. search needs) (λ c. search needs) (λ c. search needs)
+    (λ c. search needs) (λ c. search needs) (λ c. search needs) (λ c. search needs) (λ c. search (needs, place-of))
+    (λ c. search (needs, place-of)) (λ c. search (needs, place-of)) (λ c. search (needs, place-of))
+    (λ c. search (needs, place-of)) (λ c. search (needs, place-of)) (λ c. search (needs, place-of))
+    (λ c. search (needs, place-of)) (λ c. search (needs, place-of)) (λ c. search (needs, place-of))
+    (λ c. search (needs, place-of)) (λ c. search (needs, place-of)) (λ c. search (needs, place-of))
+    (λ c. search (needs, place-of)) (λ c. search (needs, place-of)) (λ c. search (needs, place-of))
+    (λ c. search (needs, place-of)) (λ c. search (needs, place-of)))

@@ -1,0 +1,33 @@
+-- The tests of a table in the new form, in their order, and what reading it gives.
+use Prim.Native.Nat.{ℕ}
+use mathlib.Core.List.{List, _∷_, _++_}
+use mathlib.Core.Bool.{not}
+use lib.Dec.{ltb, eqb}
+use lib.ListN.{length}
+use Rattle.refusal.specs.Tests.{refuseIf, inOrder}
+use Rattle.refusal.specs.declared.Cause.the-variants.{TooShort, Length, FirstByte}
+use Rattle.refusal.specs.declared.Outcome.{Outcome}
+use Rattle.taskset.specs.Tests.{sizeTests, limitTests}
+use Rattle.taskset.specs.Reading.{readingBy}
+use Rattle.taskset.specs.declared.Reading.{Reading}
+use Rattle.setup.specs.Form.{firstByte, taskCount, setupLength, setupFields}
+
+-- number 1: the table is shorter than 4 bytes
+abbrev pub shortTest : List ℕ → Outcome
+shortTest s = refuseIf (ltb (length s) 4) TooShort
+
+-- number 17: its first byte is not 0
+abbrev pub firstTest : List ℕ → Outcome
+firstTest s = refuseIf (not (eqb (firstByte s) 0)) FirstByte
+
+-- number 4: the length is other than 4 + 9 times n
+abbrev pub lengthTest : List ℕ → Outcome
+lengthTest s = refuseIf (not (eqb (length s) (setupLength (taskCount s)))) Length
+
+-- numbers 1 and 17, the sizes, number 4, the limits
+unfoldable pub setupOutcome : List ℕ → Outcome
+setupOutcome s = inOrder (shortTest s ∷ firstTest s ∷ sizeTests (setupFields s) ++ lengthTest s ∷ limitTests (setupFields s))
+
+-- the answer for a table in the new form
+unfoldable pub setupReading : List ℕ → Reading
+setupReading s = readingBy (setupOutcome s) (setupFields s)

@@ -1,0 +1,4 @@
+pub mod Lent
+pub mod Calls
+pub mod Limits
+pub mod Promise

@@ -1,0 +1,55 @@
+-- What is promised of the writer and of the moves, beside the equalities.
+use Prim.Native.Nat.{ℕ, _≤_}
+use mathlib.Core.Path.{_≡_}
+use mathlib.Core.List.{List, _++_}
+use mathlib.Core.Logic.{_≢_}
+use lib.ListN.{length, take, drop}
+use Rattle.refusal.specs.Causes.{numberIn}
+use Rattle.refusal.specs.declared.Outcome.the-variants.{Accepted}
+use Rattle.taskset.specs.Fields.{cut, Alike}
+use Rattle.taskset.specs.Reading.{acceptedReading}
+use Rattle.taskset.specs.declared.Fields.{Fields}
+use Rattle.stored.specs.Form.{everyAffinity}
+use Rattle.stored.specs.Tests.{readingOf}
+use Rattle.setup.specs.Tests.{setupReading}
+use Rattle.transfer.specs.Calls.{writeAnswer, writeOutput, newAnswer, newOutput, oldAnswer, oldOutput}
+use Rattle.transfer.specs.declared.Transfer.{Transfer}
+
+-- What a call that stores a table of this length does to a lent output, which is `after` at its exit.
+pub record Stores (Form : List ℕ → Type 0) (size : ℕ) (out : List ℕ) (r : Transfer) (after : List ℕ) : Type 0 where
+  -- An accepted call returns the table's length, the table stands in front, and every byte behind it is what it was.
+  pub returned : r .outcome ≡ Accepted → r .length ≡ size
+  pub written : r .outcome ≡ Accepted → Form after
+  pub beyond : r .outcome ≡ Accepted → drop size after ≡ drop size out
+  -- A refused one returns 0 and changes no byte.
+  pub nothing : numberIn (r .outcome) ≢ 0 → r .length ≡ 0
+  pub untouched : numberIn (r .outcome) ≢ 0 → after ≡ out
+  -- The output is as long as it was.
+  pub whole : length after ≡ length out
+
+-- the table that an accepted call left in front of the output
+abbrev pub storedIn : Transfer → List ℕ → List ℕ
+storedIn r after = take (r .length) after
+
+-- A call with this answer and this output gives these bytes, wherever there is room for them.
+pub record Yields (answer : ℕ → Transfer) (output : List ℕ → List ℕ) (bytes : List ℕ) : Type 0 where
+  pub answers : (room : ℕ) → length bytes ≤ room → answer room ≡ record { outcome = Accepted; length = length bytes }
+  pub outputs : (out : List ℕ) → length bytes ≤ length out → output out ≡ bytes ++ drop (length bytes) out
+
+-- What the writer was given is read back from what it wrote, cut at n.
+abbrev pub ReadBack : Fields → Transfer → List ℕ → Type 0
+ReadBack f r after = r .outcome ≡ Accepted → setupReading (storedIn r after) ≡ acceptedReading (cut f)
+
+-- It reads no entry beyond n: fields that are equal up to n give the same answer and output.
+abbrev pub Unread : Fields → List ℕ → Transfer → List ℕ → Type 0
+Unread f out r after = (g : Fields) → Alike f g → (writeAnswer g (length out) ≡ r) × (writeOutput g out ≡ after)
+
+-- A table that was moved to the new form reads as it did, so every call on task sets says the same of both; moved back it is the same bytes.
+pub record MovedOn (s : List ℕ) (r : Transfer) (after : List ℕ) : Type 0 where
+  pub reads : r .outcome ≡ Accepted → setupReading (storedIn r after) ≡ readingOf s 0 (everyAffinity s)
+  pub returns : r .outcome ≡ Accepted → Yields (oldAnswer (storedIn r after)) (oldOutput (storedIn r after)) s
+
+-- A table that was moved back reads as it did; moved to the new form again it is the same bytes.
+pub record MovedBack (s : List ℕ) (r : Transfer) (after : List ℕ) : Type 0 where
+  pub reads : r .outcome ≡ Accepted → readingOf (storedIn r after) 0 (everyAffinity (storedIn r after)) ≡ setupReading s
+  pub returns : r .outcome ≡ Accepted → Yields (newAnswer (storedIn r after)) (newOutput (storedIn r after)) s

@@ -1,0 +1,208 @@
+// Tables into lent outputs: the writer of the new form, the move from the old form to the new one, and the move back.
+ghost use mathlib.Core.Path.{_≡_};
+ghost use mathlib.Core.List.{_++_};
+ghost use Prim.Native.Nat.{_+_, _*_, _≤_, _<_};
+ghost use lib.ListN.{length, getD, drop};
+ghost use Rattle.numbers.specs.First.{first};
+ghost use Rattle.refusal.specs.Tests.{_then_};
+ghost use Rattle.refusal.specs.Conditions.{Decides};
+ghost use Rattle.refusal.specs.declared.Outcome.the-variants.{Accepted};
+ghost use Rattle.taskset.specs.Limits.{Within};
+ghost use Rattle.stored.specs.Form.{fieldsAlone, tableBytes, OldForm};
+ghost use Rattle.setup.specs.Form.{setupFields, setupBytes, NewForm};
+ghost use Rattle.transfer.specs.Lent.{roomTest, answerBy, answerOf, outputOf};
+ghost use Rattle.transfer.specs.Calls.{listed as listedFields, writeAnswer, writeOutput, newAnswer, newOutput, otherByte, fillingTest, oldAnswer, oldOutput};
+ghost use Rattle.transfer.specs.Limits.{ValidWrite, writeConditions, ValidNew, newConditions, ValidOld, oldConditions};
+ghost use Rattle.transfer.specs.Promise.{Stores, ReadBack, Unread, MovedOn, MovedBack};
+use refusal::Cause;
+use refusal::Outcome;
+use taskset::Fields;
+
+// The answer of a call that stores a table in a lent output: the table's length, or 0 beside a refusal.
+pub struct Transfer {
+    pub outcome: Outcome,
+    pub length: usize,
+}
+
+// Writes fields in the new form to the front of an output and leaves what follows.
+fn put_setup(out: &mut [u8], f: Fields)
+    requires { ⌜ Within f × (4 + 9 * f .n ≤ length (now out)) ⌝ }
+    ensures { λ _. ⌜ now (out .exit) ≡ setupBytes f ++ drop (length (setupBytes f)) (now (out .entry)) ⌝ }
+{
+    let n = f.n;
+    out[0] = 0;
+    out[1] = n as u8;
+    out[2] = f.m as u8;
+    out[3] = f.charge as u8;
+    let periods = f.periods;
+    let budgets = f.budgets;
+    let affinity = f.affinity;
+    wire::put_words(out, 4, periods, n);
+    wire::put_words(out, 4 + 4 * n, budgets, n);
+    wire::put_bytes(out, 4 + 8 * n, affinity, n);
+}
+
+// The same in the old form, which has no place for charge and core bytes.
+fn put_table(out: &mut [u8], f: Fields)
+    requires { ⌜ Within f × (2 + 8 * f .n ≤ length (now out)) ⌝ }
+    ensures { λ _. ⌜ now (out .exit) ≡ tableBytes f ++ drop (length (tableBytes f)) (now (out .entry)) ⌝ }
+{
+    let n = f.n;
+    out[0] = n as u8;
+    out[1] = f.m as u8;
+    let periods = f.periods;
+    let budgets = f.budgets;
+    wire::put_words(out, 2, periods, n);
+    wire::put_words(out, 2 + 4 * n, budgets, n);
+}
+
+// The tests before, then number 8: the output is shorter than the table.
+fn room_after(before: Outcome, size: usize, room: usize) -> Outcome
+    ensures { λ r. ⌜ r ≡ before then roomTest size room ⌝ }
+{
+    let fits = refusal::refuse_if(room < size, Cause::Buffer);
+    refusal::then(before, fits)
+}
+
+// The answer by the outcome of all tests.
+fn answer(outcome: Outcome, size: usize) -> Transfer
+    ensures { λ r. ⌜ r ≡ answerBy outcome size ⌝ }
+{
+    match outcome {
+        Outcome::Refused(cause) => Transfer {
+            outcome: Outcome::Refused(cause),
+            length: 0,
+        },
+        Outcome::Accepted => Transfer {
+            outcome: Outcome::Accepted,
+            length: size,
+        },
+    }
+}
+
+// Stores fields in the new form after tests that accept only fields within the limits, if there is room.
+fn store_setup(before: Outcome, f: Fields, out: &mut [u8]) -> Transfer
+    requires { ⌜ (f .n ≤ 16) × (before ≡ Accepted → Within f) ⌝ }
+    ensures answer { λ r. ⌜ r ≡ answerOf before (setupBytes f) (length (now (out .entry))) ⌝ }
+    ensures output { λ r. ⌜ now (out .exit) ≡ outputOf before (setupBytes f) (now (out .entry)) ⌝ }
+{
+    let size = 4 + 9 * f.n;
+    let outcome = room_after(before, size, out.len());
+    match outcome {
+        Outcome::Refused(_) => answer(outcome, size),
+        Outcome::Accepted => {
+            put_setup(out, f);
+            answer(outcome, size)
+        }
+    }
+}
+
+// The same in the old form.
+fn store_table(before: Outcome, f: Fields, out: &mut [u8]) -> Transfer
+    requires { ⌜ (f .n ≤ 16) × (before ≡ Accepted → Within f) ⌝ }
+    ensures answer { λ r. ⌜ r ≡ answerOf before (tableBytes f) (length (now (out .entry))) ⌝ }
+    ensures output { λ r. ⌜ now (out .exit) ≡ outputOf before (tableBytes f) (now (out .entry)) ⌝ }
+{
+    let size = 2 + 8 * f.n;
+    let outcome = room_after(before, size, out.len());
+    match outcome {
+        Outcome::Refused(_) => answer(outcome, size),
+        Outcome::Accepted => {
+            put_table(out, f);
+            answer(outcome, size)
+        }
+    }
+}
+
+// Fields with a core byte for each task, as the new form has it.
+fn listed(f: Fields) -> Fields
+    ensures { λ r. ⌜ r ≡ listedFields f ⌝ }
+{
+    let periods = f.periods;
+    let budgets = f.budgets;
+    let affinity = f.affinity;
+    Fields {
+        n: f.n,
+        m: f.m,
+        periods: periods,
+        budgets: budgets,
+        charge: f.charge,
+        affinity: affinity,
+        given: f.n,
+    }
+}
+
+// Whether the core byte of task `k` is another than that of every core.
+fn is_other_byte(f: Fields, k: usize) -> bool
+    requires { ⌜ k < 16 ⌝ }
+    ensures { λ r. ⌜ r ≡ otherByte f k ⌝ }
+{
+    f.affinity[k] != affinity::every_core(f.m)
+}
+
+// The first task, from 1, with such a core byte; 0 if there is none.
+fn first_other_byte(f: Fields) -> usize
+    requires { ⌜ f .n ≤ 16 ⌝ }
+    ensures { λ r. ⌜ r ≡ first (otherByte f) (f .n) ⌝ }
+{
+    let mut k = 0;
+    while k < f.n {
+        if is_other_byte(f, k) {
+            return k + 1;
+        }
+        k += 1;
+    }
+    0
+}
+
+// Number 18.
+fn filling_test(f: Fields) -> Outcome
+    requires { ⌜ f .n ≤ 16 ⌝ }
+    ensures { λ r. ⌜ r ≡ fillingTest f ⌝ }
+{
+    let task = first_other_byte(f);
+    refusal::refuse_if((f.charge != 0) | (task != 0), Cause::Filling)
+}
+
+// Writes fields to an output in the new form, if they are within the limits. Entries beyond n are not read.
+pub fn write_setup(f: Fields, out: &mut [u8]) -> Transfer
+    ensures answer { λ r. ⌜ r ≡ writeAnswer f (length (now (out .entry))) ⌝ }
+    ensures output { λ r. ⌜ now (out .exit) ≡ writeOutput f (now (out .entry)) ⌝ }
+    ensures decides { λ r. ⌜ Decides (ValidWrite f (length (now (out .entry)))) (writeConditions f (length (now (out .entry)))) (r .outcome) ⌝ }
+    ensures stores { λ r. ⌜ Stores (NewForm f) (4 + 9 * f .n) (now (out .entry)) r (now (out .exit)) ⌝ }
+    ensures back { λ r. ⌜ ReadBack f r (now (out .exit)) ⌝ }
+    ensures unread { λ r. ⌜ Unread f (now (out .entry)) r (now (out .exit)) ⌝ }
+{
+    let reading = taskset::check(listed(f));
+    let tests = reading.outcome;
+    store_setup(tests, reading.tasks.fields, out)
+}
+
+// Moves a table of the old form to an output in the new form: the charge is 0, and each task may use every core.
+pub fn to_new(table: &[u8], out: &mut [u8]) -> Transfer
+    ensures answer { λ r. ⌜ r ≡ newAnswer (now (table .entry)) (length (now (out .entry))) ⌝ }
+    ensures output { λ r. ⌜ now (out .exit) ≡ newOutput (now (table .entry)) (now (out .entry)) ⌝ }
+    ensures decides { λ r. ⌜ Decides (ValidNew (now (table .entry)) (length (now (out .entry)))) (newConditions (now (table .entry)) (length (now (out .entry)))) (r .outcome) ⌝ }
+    ensures stores { λ r. ⌜ Stores (NewForm (fieldsAlone (now (table .entry)))) (4 + 9 * getD (now (table .entry)) 0 0) (now (out .entry)) r (now (out .exit)) ⌝ }
+    ensures moved { λ r. ⌜ MovedOn (now (table .entry)) r (now (out .exit)) ⌝ }
+{
+    let reading = stored::read_table(table);
+    let tests = reading.outcome;
+    store_setup(tests, reading.tasks.fields, out)
+}
+
+// Moves a table of the new form with exactly those fillings back to the old form.
+pub fn to_old(table: &[u8], out: &mut [u8]) -> Transfer
+    ensures answer { λ r. ⌜ r ≡ oldAnswer (now (table .entry)) (length (now (out .entry))) ⌝ }
+    ensures output { λ r. ⌜ now (out .exit) ≡ oldOutput (now (table .entry)) (now (out .entry)) ⌝ }
+    ensures decides { λ r. ⌜ Decides (ValidOld (now (table .entry)) (length (now (out .entry)))) (oldConditions (now (table .entry)) (length (now (out .entry)))) (r .outcome) ⌝ }
+    ensures stores { λ r. ⌜ Stores (OldForm (setupFields (now (table .entry)))) (2 + 8 * getD (now (table .entry)) 1 0) (now (out .entry)) r (now (out .exit)) ⌝ }
+    ensures moved { λ r. ⌜ MovedBack (now (table .entry)) r (now (out .exit)) ⌝ }
+{
+    let reading = setup::read_setup(table);
+    let f = reading.tasks.fields;
+    let read = reading.outcome;
+    let filling = filling_test(f);
+    let tests = refusal::then(read, filling);
+    store_table(tests, f, out)
+}
