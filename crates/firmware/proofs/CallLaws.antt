@@ -79,8 +79,8 @@ pub code-refused : {v : Verdict} {c : Cause} {x : ℕ} → x ≡ numberOf c → 
 code-refused e q = rw (q, e)
 
 -- The outcome is that of the tests of the reading, then of the buffer: where the reading is refused, the buffer's does not matter.
-pub both-well : (a b : Outcome) {o : Outcome} → o ≡ a then b → o ≡ outcome.Accepted → (a ≡ outcome.Accepted) × (b ≡ outcome.Accepted)
-both-well a b p q = then-accepted a b (sym p ∙ q)
+pub read-well : (a b : Outcome) {o : Outcome} → o ≡ a then b → o ≡ outcome.Accepted → a ≡ outcome.Accepted
+read-well a b p q = then-accepted a b (sym p ∙ q) .0
 
 module _ (s : List ℕ) (room : ℕ) {g : Reading} (e : g ≡ setupReading s) {fits : Outcome} (f : fits ≡ bufferTest (g .tasks .fields .n) room)
     {o : Outcome} (p : o ≡ g .outcome then fits) where
@@ -101,10 +101,10 @@ module _ (s : List ℕ) (room : ℕ) {g : Reading} (e : g ≡ setupReading s) {f
   module _ (q : o ≡ outcome.Accepted) where
     call-few : g .tasks .fields .n ≤ 16
     unfolding setupFields
-    call-few = rw (count-is (both-well _ _ p q .0)) (call-valid s room (sym outcome-is ∙ q) .table .fields .sizes .tasks .1)
+    call-few = rw (count-is (read-well _ _ p q)) (call-valid s room (sym outcome-is ∙ q) .table .fields .sizes .tasks .1)
 
     call-room : g .tasks .fields .n ≤ room
-    call-room = rw (count-is (both-well _ _ p q .0)) (call-valid s room (sym outcome-is ∙ q) .fits)
+    call-room = rw (count-is (read-well _ _ p q)) (call-valid s room (sym outcome-is ∙ q) .fits)
 
     -- so there are n core numbers, and room for them
     pub call-fits : (g .tasks .fields .n ≤ 16) × (0 + g .tasks .fields .n ≤ room)
@@ -131,11 +131,11 @@ module _ (s : List ℕ) (limit : ℕ) (buffer : List ℕ) {g : Reading} (e : g �
       → (code ≡ codeFor s limit (length buffer)) × (after ≡ bufferAfter s limit buffer)
   unfolding codeFor codeBy bufferAfter bufferBy
   call-planned q {r} w {after = after} h t =
-      let plan-is : r ≡ setupPlan s limit = setup-planned s e limit (both-well _ _ p q .0) w in
+      let plan-is : r ≡ setupPlan s limit = setup-planned s e limit (read-well _ _ p q) w in
       let n : ℕ = g .tasks .fields .n in
       let enough : n ≤ length (r .placement) = rw (w, placement-long (g .tasks .fields) limit) (call-fits s (length buffer) e f p q .0) in
       let after-is : after ≡ take (taskCount s) (r .placement) ++ drop (taskCount s) buffer =
-      rw (← count-is s (length buffer) e f p (both-well _ _ p q .0)) (front-put buffer (r .placement) n enough t) in (
+      rw (← count-is s (length buffer) e f p (read-well _ _ p q)) (front-put buffer (r .placement) n enough t) in (
         rw (← same, q) (h ∙ ap (λ a. codeOf (a .verdict)) plan-is),
         rw (← same, q) (after-is ∙ ap (λ a. take (taskCount s) (a .placement) ++ drop (taskCount s) buffer) plan-is),
       )

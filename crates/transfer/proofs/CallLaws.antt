@@ -9,7 +9,7 @@ use Rattle.refusal.specs.Conditions.{Condition, Decides}
 use Rattle.refusal.specs.Tests.{_then_}
 use Rattle.refusal.specs.declared.Outcome.{Outcome}
 use Rattle.refusal.specs.declared.Outcome.the-variants.{Accepted}
-use Rattle.refusal.proofs.TestLaws.{outcome-cases, then-accepted, then-first, then-refused}
+use Rattle.refusal.proofs.TestLaws.{outcome-cases, then-accepted, then-refused}
 use Rattle.refusal.proofs.ConditionLaws.{Tested, unnamed, join-after, decides, accepts}
 use Rattle.taskset.specs.Fields.{Free, cut}
 use Rattle.taskset.specs.Tests.{fieldsOutcome}
@@ -186,10 +186,8 @@ module _ (s : List ℕ) where
         setup.valid-reading there there-valid ∙ ap acceptedReading there-fields ∙ sym (table.valid-reading s 0 (everyAffinity s) v)
 
     there-back : backOutcome there ≡ Accepted
-    unfolding backOutcome fieldsOf
-    there-back =
-        then-first (setupOutcome there) (fillingTest (setupFields there)) (setup.setup-accepts there .1 there-valid)
-        ∙ rw there-fields (filling-accepts (fieldsAlone s) refl (every-affinity s 0 few))
+    unfolding backOutcome fieldsOf _then_
+    there-back = rw (setup.setup-accepts there .1 there-valid, there-fields, filling-accepts (fieldsAlone s) refl (every-affinity s 0 few))
 
     pub there-and-back : Bytes s → Yields (oldAnswer there) (oldOutput there) s
     unfolding oldAnswer oldOutput
@@ -228,6 +226,10 @@ module _ (s : List ℕ) where
   abbrev f : Fields
   f = setupFields s
 
+  pub back-tested : Tested (ValidSetup s × ((f .charge ≡ 0) × Free f)) (setupConditions s ++ otherFilling f ∷ []) (backOutcome s)
+  unfolding backOutcome
+  back-tested = join-after (setup.setup-tested s) (λ n. filling-tested f (setup.setup-tested s .valid .0 n .fields))
+
   back-accepted : backOutcome s ≡ Accepted → (setupOutcome s ≡ Accepted) × (fillingTest f ≡ Accepted)
   unfolding backOutcome
   back-accepted q = then-accepted (setupOutcome s) (fillingTest f) q
@@ -238,10 +240,6 @@ module _ (s : List ℕ) where
   old-long : backOutcome s ≡ Accepted → length (tableBytes f) ≡ 2 + 8 * getD s 1 0
   unfolding setupFields
   old-long q = table-long f (back-valid q .fields)
-
-  pub back-tested : Tested (ValidSetup s × ((f .charge ≡ 0) × Free f)) (setupConditions s ++ otherFilling f ∷ []) (backOutcome s)
-  unfolding backOutcome
-  back-tested = join-after (setup.setup-tested s) (λ n. filling-tested f (setup.setup-tested s .valid .0 n .fields))
 
   old-tested : (room : ℕ) → Tested (ValidOld s room) (oldConditions s room) (backOutcome s then roomTest (length (tableBytes f)) room)
   old-tested room =

@@ -1,14 +1,11 @@
 -- A refusal leaves the buffer; otherwise code and buffer are those of the plan.
-use Rattle.firmware.proofs.CallLaws.{both-well, call-fits, call-refused, call-planned}
+use Rattle.firmware.proofs.CallLaws.{read-well, call-fits, call-refused, call-planned}
 use borrow.Author.Needs.{needs}
 use Rattle.firmware.proofs.plan_into.Statement.{statement}
 use Rattle.firmware.proofs.plan_into.Tie as tie
 
--- in either order of the two tests the reading is accepted: a wrong order is refused for its answer
 plan-tasks-requires : tie.Need-plan-tasks-requires
-plan-tasks-requires c κs =
-    let both = both-well _ _ (c .before .before .then .ensures) (cc) in
-    c .before .before .before .before .read-setup .ensures .1 .1 .0 .checked (search (both .0, both .1))
+plan-tasks-requires c κs = c .before .before .before .before .read-setup .ensures .1 .1 .0 .checked (read-well _ _ (c .before .before .then .ensures) (cc))
 
 put-bytes-requires : tie.Need-put-bytes-requires
 put-bytes-requires c κs = call-fits _ _ (c .before .before .before .before .before .before .before .read-setup .ensures .0) (c .before .before .before .before .before .before .buffer-test .ensures) (c .before .before .before .before .before .then .ensures) (c .before .before .before .enum-told .given .1)
