@@ -8,6 +8,7 @@ use native.Mathlib.Nat.{mod-lt}
 use borrow.Author.Tests.{lt-ltb, le-ltb}
 use Rattle.affinity.specs.Permitted.{everyCore}
 use Rattle.stored.specs.Form.{taskCount, coreCount, everyAffinity}
+use Rattle.stored.specs.Limits.{beside}
 use Rattle.edf.specs.Tick.{TickAnswer, tick}
 use Rattle.runner.specs.declared.Core.{Core}
 use Rattle.runner.specs.Answers.{tickAnswer}
@@ -68,12 +69,12 @@ front-equal (suc n) zero x h = absurd (omega arith)
 front-equal (suc n) (suc k) x h = ap (λ (l : List ℕ). x ∷ l) (front-equal n k x (omega arith))
 
 pub bench-few : (table : List ℕ) (charge ticks : ℕ) {b n c m byte r : ℕ} (started : Started) → b ≡ taskCount table → n ≡ b → n ≤ 16
-    → c ≡ coreCount table → m ≡ c → byte ≡ everyCore m → started ≡ startOf table charge (take n (replicate 16 byte)) (take n (replicate 16 1)) 1
+    → c ≡ coreCount table → m ≡ c → byte ≡ everyCore m → started ≡ startOf (beside table charge (take n (replicate 16 byte))) (take n (replicate 16 1)) 1
     → r ≡ sumOfTasks 0 (started .core .charge) (started .core .slots) ticks → r ≡ benchSum table charge ticks
 unfolding benchSum everyAffinity
 bench-few table charge ticks {n = n} {byte = byte} started e i h f j g s q =
     let count : n ≡ taskCount table = i ∙ e in
     let every : byte ≡ everyCore (coreCount table) = g ∙ ap everyCore (j ∙ f) in
-    let is : started ≡ startOf table charge (replicate (taskCount table) (everyCore (coreCount table))) (replicate (taskCount table) 1) 1 =
+    let is : started ≡ startOf (beside table charge (replicate (taskCount table) (everyCore (coreCount table)))) (replicate (taskCount table) 1) 1 =
     rw (← count, ← every, ← front-equal n 16 byte h, ← front-equal n 16 1 h) s in
     rw (le-ltb 16 (taskCount table) (omega arith), ← is) q

@@ -5,6 +5,7 @@ use mathlib.Core.Bool.{cond}
 use lib.Dec.{ltb}
 use lib.ListN.{replicate}
 use Rattle.stored.specs.Form.{taskCount, everyAffinity}
+use Rattle.stored.specs.Limits.{beside}
 use Rattle.edf.specs.declared.Slot.{Slot}
 use Rattle.edf.specs.Tick.{TickAnswer, tick}
 use Rattle.runner.specs.declared.Core.{Core}
@@ -28,5 +29,5 @@ sumOfTasks sum charge slots (suc ticks) =
 -- the sum for a table with every core permitted, and all its tasks on core 1 of a board with this charge; 0 for more than sixteen tasks
 unfoldable pub benchSum : List ℕ → ℕ → ℕ → ℕ
 benchSum table charge ticks =
-    let core : Core = startOf table charge (everyAffinity table) (replicate (taskCount table) 1) 1 .core in
+    let core : Core = startOf (beside table charge (everyAffinity table)) (replicate (taskCount table) 1) 1 .core in
     cond (ltb 16 (taskCount table)) 0 (sumOfTasks 0 (core .charge) (core .slots) ticks)

@@ -2,13 +2,14 @@
 ghost use mathlib.Core.Path.{_≡_};
 ghost use Prim.Native.Nat.{_<_};
 ghost use Rattle.planner.specs.Plan.{planOf};
+ghost use Rattle.stored.specs.Limits.{beside};
 ghost use Rattle.bench_entry.specs.Ticks.{plus as plusOf, sumOfTasks, benchSum};
 use runner::Core;
 
 // Plans a table on a board with this charge, with these core bytes, and returns the number of steps.
 #[no_mangle]
 pub extern "C" fn bench_search(table: &[u8], charge: u32, cores: &[u8], limit: u32) -> u32
-    ensures { λ r. ⌜ r ≡ planOf (now (table .entry)) charge (now (cores .entry)) limit .steps ⌝ }
+    ensures { λ r. ⌜ r ≡ planOf (beside (now (table .entry)) charge (now (cores .entry))) limit .steps ⌝ }
 {
     planner::plan(table, charge, cores, limit).steps
 }

@@ -18,9 +18,8 @@ use Rattle.numbers.proofs.SortingLaws.{permutation-below}
 use Rattle.numbers.proofs.ReorderLaws.{order-long, position-of, getD-gather}
 use Rattle.affinity.specs.Permitted.{permitted, permittedCount, CoreByte}
 use Rattle.affinity.proofs.PermittedLaws.{count-grows, count-within, count-full, full-count}
-use Rattle.refusal.specs.Causes.{numberIn}
-use Rattle.refusal.specs.Conditions.{Decides}
-use Rattle.refusal.proofs.ConditionLaws.{decides, accepts}
+use Rattle.refusal.proofs.TestLaws.{accepted≢refused, by-accepted, by-refused, by-both, by-says}
+use Rattle.refusal.proofs.ConditionLaws.{decides}
 use Rattle.refusal.specs.declared.Cause.{Cause}
 use Rattle.refusal.specs.declared.Outcome.{Outcome}
 use Rattle.refusal.specs.declared.Outcome.the-variants as outcome
@@ -28,21 +27,20 @@ use Rattle.taskset.specs.Fields.{affinityAt, Free}
 use Rattle.taskset.specs.Limits.{Within}
 use Rattle.taskset.specs.declared.Fields.{Fields}
 use Rattle.taskset.specs.declared.Reading.{Reading}
-use Rattle.stored.specs.Form.{fieldsOf, taskCount, coreCount}
-use Rattle.stored.specs.Tests.{tableOutcome, readingOf}
-use Rattle.stored.specs.Limits.{Valid, conditions}
-use Rattle.stored.proofs.TableLaws.{table-tested, read-outcome}
+use Rattle.taskset.specs.Table.{Table, readingOf, Decided, Sound}
+use Rattle.taskset.proofs.TableLaws.{table-accepts, table-within, read-answer}
+use Rattle.planning.specs.Problem.{tableProblem, orderOf}
+use Rattle.plans.proofs.SafeLaws.{demands-long, stated-order, order-permutation}
 use Rattle.allocation.specs.Placement.{Problem}
 use Rattle.allocation.specs.TableOrder.{inPlanningOrder}
 use Rattle.allocation.proofs.Ceiling.{AllTwins, walk-steps, permitted-steps}
 use Rattle.allocation.proofs.Reorder.{inPlanningOrder-long}
-use Rattle.planner.specs.Problem.{tableProblem, orderOf}
-use Rattle.planner.specs.Plan.{planFor, refusedPlan, planBy, planOf}
+use Rattle.planner.specs.Plan.{planFor, refusedPlan, planOf}
 use Rattle.planner.specs.Promise.{walkOf}
 use Rattle.planner.specs.declared.Verdict.the-variants.{Spent}
-use Rattle.planner.proofs.PlanLaws.{fields-are}
-use Rattle.planner.proofs.PromiseLaws.{demands-long, stated-order, order-permutation, promised}
-use Rattle.ceiling.specs.Ceiling.{coresOf, someTied, factorFor, sumOfProducts, plannedBytes, stepCeiling, ceilingBy, ceilingOf}
+use Rattle.planner.proofs.PlanLaws.{plan-accepted-is, plan-refused-is}
+use Rattle.planner.proofs.PromiseLaws.{promised}
+use Rattle.ceiling.specs.Ceiling.{coresOf, someTied, factorFor, sumOfProducts, plannedBytes, stepCeiling, ceilingFor, refusedCeiling, ceilingBy, ceilingOf}
 use Rattle.ceiling.specs.Promise.{permittedTo, Ceils, Promise, freeCeiling, Few}
 use Rattle.ceiling.specs.declared.StepCeiling.{StepCeiling}
 use Rattle.ceiling.proofs.SumLaws.{sums-cong, sums-mono, ceiling-grows, usual-ceilings}
@@ -158,81 +156,62 @@ ceiling-is f e u w = w ∙ rw (u, e)
 
 -- ---- a table
 
-pub ceiling-outcome : (o : Outcome) (f : Fields) → ceilingBy o f .outcome ≡ o
-unfolding ceilingBy
-ceiling-outcome outcome.Accepted f = refl
-ceiling-outcome (outcome.Refused c) f = refl
+pub ceiling-outcome : (t : Table) → ceilingOf t .outcome ≡ t .outcome
+unfolding ceilingOf ceilingBy ceilingFor refusedCeiling
+ceiling-outcome t = by-says refusedCeiling ceilingFor (λ a. a .outcome) (λ c. refl) (λ f. refl) (t .outcome) (t .fields)
 
--- what is promised whether or not the table is valid
-record Answered (s : List ℕ) (charge : ℕ) (affinity : List ℕ) (r : StepCeiling) : Type 0 where
-  unspent : (limit : ℕ) → r .ceiling ≤ limit → planOf s charge affinity limit .verdict ≢ Spent
-  refused : numberIn (r .outcome) ≢ 0 → r .ceiling ≡ 0
-
-answered : (s : List ℕ) (charge : ℕ) (affinity : List ℕ) (o : Outcome) → tableOutcome s charge affinity ≡ o → Answered s charge affinity (ceilingBy o (fieldsOf s charge affinity))
-unfolding ceilingBy planOf planBy refusedPlan
-answered s charge affinity (outcome.Refused c) e = record {
-  unspent = λ limit h. rw e (λ q. let z : _≡_ {A = ℕ} 0 1 = cc in omega arith);
-  refused = λ n. refl;
-}
-answered s charge affinity outcome.Accepted e = record {
-  unspent = λ limit h. rw e (never-spent (fieldsOf s charge affinity) (accepts (decides (table-tested s charge affinity)) .0 e .fields) limit h);
-  refused = λ n. absurd (n refl);
-}
-
--- every clause of `step_ceiling`, of an answer that equals the definition
-module _ (s : List ℕ) (charge : ℕ) (affinity : List ℕ) {r : StepCeiling} (e : r ≡ ceilingOf s charge affinity) where
-  holds : Answered s charge affinity r
-  unfolding ceilingOf
-  holds = rw e (answered s charge affinity (tableOutcome s charge affinity) refl)
-
-  valid-is : Valid s charge affinity → r .ceiling ≡ stepCeiling (fieldsOf s charge affinity)
-  unfolding ceilingOf ceilingBy
-  valid-is v = rw (e, accepts (decides (table-tested s charge affinity)) .1 v)
-
-  pub ceiling-decides : Decides (Valid s charge affinity) (conditions s charge affinity) (r .outcome)
-  unfolding ceilingOf
-  ceiling-decides = rw (e, ceiling-outcome (tableOutcome s charge affinity) (fieldsOf s charge affinity)) (decides (table-tested s charge affinity))
-
-  pub ceiling-promise : Promise s charge affinity r
-  ceiling-promise = record {
-    valid = λ v. rw (valid-is v) (ceils (fieldsOf s charge affinity) (v .fields));
-    unspent = holds .unspent;
+module _ {t : Table} (s : Sound t) where
+  refused-promise : (c : Cause) → t .outcome ≡ outcome.Refused c → Promise t (refusedCeiling c)
+  unfolding refusedCeiling refusedPlan
+  refused-promise c e = record {
+    valid = λ v. absurd (accepted≢refused (table-accepts s .1 v) e);
+    unspent = λ limit h. rw (plan-refused-is t limit e) (λ q. let z : _≡_ {A = ℕ} 0 1 = cc in omega arith);
+    refused = λ n. refl;
   }
 
-  pub ceiling-refused : numberIn (r .outcome) ≢ 0 → r .ceiling ≡ 0
-  ceiling-refused = holds .refused
+  accepted-promise : t .outcome ≡ outcome.Accepted → Promise t (ceilingFor (t .fields))
+  unfolding ceilingFor
+  accepted-promise e = record {
+    valid = λ v. ceils (t .fields) (s .within v);
+    unspent = λ limit h. rw (plan-accepted-is t limit e) (never-spent (t .fields) (table-within s e) limit h);
+    refused = λ n. absurd (n refl);
+  }
 
-  -- one within the other, as the contract's clauses stand
-  pub ceiling-promised : (r ≡ ceilingOf s charge affinity) × (Decides (Valid s charge affinity) (conditions s charge affinity) (r .outcome) × (Promise s charge affinity r × (numberIn (r .outcome) ≢ 0 → r .ceiling ≡ 0)))
-  ceiling-promised = (e, (ceiling-decides, (ceiling-promise, ceiling-refused)))
+  module _ {r : StepCeiling} (e : r ≡ ceilingOf t) where
+    pub ceiling-decided : Decided t (r .outcome)
+    ceiling-decided = rw (e, ceiling-outcome t) (decides (s .tested))
 
--- ---- from the reader's answer
+    pub ceiling-promise : Promise t r
+    unfolding ceilingOf ceilingBy
+    ceiling-promise = rw e (by-both refusedCeiling ceilingFor (Promise t) (t .outcome) (t .fields) refused-promise accepted-promise)
 
-module _ (s : List ℕ) (charge : ℕ) (affinity : List ℕ) {g : Reading} (e : g ≡ readingOf s charge affinity) where
-  pub ceiling-of-refused : {c : Cause} → g .outcome ≡ outcome.Refused c
-      → _≡_ {A = StepCeiling} (record { outcome = outcome.Refused c; ceiling = 0 }) (ceilingOf s charge affinity)
-  unfolding ceilingOf ceilingBy
-  ceiling-of-refused q = rw (← read-outcome s charge affinity e, q)
+-- all that is said of the ceiling of a table's reading
+pub ceiling-all : {t : Table} → Sound t → {g : Reading} → g ≡ readingOf t → {r : StepCeiling} → r ≡ ceilingBy (g .outcome) (g .tasks .fields)
+    → (r ≡ ceilingOf t) × (Decided t (r .outcome) × Promise t r)
+unfolding ceilingOf ceilingBy
+ceiling-all {t} s e {r} w = let a : r ≡ ceilingOf t = w ∙ read-answer t e refusedCeiling ceilingFor in (a, (ceiling-decided s a, ceiling-promise s a))
 
-  pub ceiling-of-accepted : g .outcome ≡ outcome.Accepted → {x : ℕ} → x ≡ stepCeiling (g .tasks .fields)
-      → _≡_ {A = StepCeiling} (record { outcome = outcome.Accepted; ceiling = x }) (ceilingOf s charge affinity)
-  unfolding ceilingOf ceilingBy
-  ceiling-of-accepted q w =
-      rw (← read-outcome s charge affinity e, q)
-      (ap (λ x. record { outcome = outcome.Accepted; ceiling = x }) (w ∙ ap stepCeiling (fields-are s charge affinity e q)))
+-- ---- by the outcome of the reading
+
+pub ceiling-refused : (f : Fields) {o : Outcome} {c : Cause} → o ≡ outcome.Refused c → _≡_ {A = StepCeiling} (record { outcome = outcome.Refused c; ceiling = 0 }) (ceilingBy o f)
+unfolding ceilingBy refusedCeiling
+ceiling-refused f q = sym (by-refused refusedCeiling ceilingFor f q)
+
+pub ceiling-accepted : (f : Fields) {o : Outcome} → o ≡ outcome.Accepted → {x : ℕ} → x ≡ stepCeiling f
+    → _≡_ {A = StepCeiling} (record { outcome = outcome.Accepted; ceiling = x }) (ceilingBy o f)
+unfolding ceilingBy ceilingFor
+ceiling-accepted f q w = ap (λ x. record { outcome = outcome.Accepted; ceiling = x }) w ∙ sym (by-accepted refusedCeiling ceilingFor f q)
 
 -- ---- the usual limit
 
 -- so few tasks that the ceiling is at most 1,000,000
-few-steps : (s : List ℕ) → taskCount s ≤ 16 → Few s → freeCeiling (coreCount s) (taskCount s) ≤ 1000000
-few-steps s h (inl e) = rw e (omega (arith, ceiling-grows 1 h, usual-ceilings .0))
-few-steps s h (inr (inl x)) = rw (x .0) (omega (arith, ceiling-grows 2 (x .1), usual-ceilings .1))
-few-steps s h (inr (inr (inl x))) = rw (x .0) (omega (arith, ceiling-grows 3 (x .1), usual-ceilings .2))
-few-steps s h (inr (inr (inr x))) = rw (x .0) (omega (arith, ceiling-grows 4 (x .1), usual-ceilings .3))
+few-steps : (f : Fields) → f .n ≤ 16 → Few f → freeCeiling (f .m) (f .n) ≤ 1000000
+few-steps f h (inl e) = rw e (omega (arith, ceiling-grows 1 h, usual-ceilings .0))
+few-steps f h (inr (inl x)) = rw (x .0) (omega (arith, ceiling-grows 2 (x .1), usual-ceilings .1))
+few-steps f h (inr (inr (inl x))) = rw (x .0) (omega (arith, ceiling-grows 3 (x .1), usual-ceilings .2))
+few-steps f h (inr (inr (inr x))) = rw (x .0) (omega (arith, ceiling-grows 4 (x .1), usual-ceilings .3))
 
-pub few-unspent : (s : List ℕ) (charge : ℕ) (affinity : List ℕ) → Valid s charge affinity → Free (fieldsOf s charge affinity) → Few s
-    → planOf s charge affinity 1000000 .verdict ≢ Spent
-unfolding fieldsOf
-few-unspent s charge affinity v free h =
-    let p = ceiling-promise s charge affinity refl in
-    p .unspent 1000000 (rw (p .valid v .free free) (few-steps s (v .fields .sizes .tasks .1) h))
+pub few-unspent : {t : Table} → Sound t → t .Valid → Free (t .fields) → Few (t .fields) → planOf t 1000000 .verdict ≢ Spent
+few-unspent {t} s v free h =
+    let p = ceiling-promise s refl in
+    p .unspent 1000000 (rw (p .valid v .free free) (few-steps (t .fields) (s .within v .sizes .tasks .1) h))

@@ -8,13 +8,14 @@ use Rattle.numbers.specs.Reorder.{gather}
 use Rattle.numbers.specs.Rows.{tab, entry}
 use Rattle.numbers.specs.Sums.{sumFromOne, productFromOne}
 use Rattle.affinity.specs.Permitted.{permittedCount}
+use Rattle.refusal.specs.Tests.{byOutcome}
+use Rattle.refusal.specs.declared.Cause.{Cause}
 use Rattle.refusal.specs.declared.Outcome.{Outcome}
 use Rattle.refusal.specs.declared.Outcome.the-variants.{Accepted, Refused}
 use Rattle.taskset.specs.Fields.{affinityAt}
 use Rattle.taskset.specs.declared.Fields.{Fields}
-use Rattle.stored.specs.Form.{fieldsOf}
-use Rattle.stored.specs.Tests.{tableOutcome}
-use Rattle.planner.specs.Problem.{orderOf}
+use Rattle.taskset.specs.Table.{Table}
+use Rattle.planning.specs.Problem.{orderOf}
 use Rattle.ceiling.specs.declared.StepCeiling.{StepCeiling}
 
 -- how many cores the task at k permits: the ones among the eight bits of its core byte
@@ -41,11 +42,18 @@ plannedBytes f = gather (orderOf f) (tab (f .n) (affinityAt f))
 unfoldable pub stepCeiling : Fields → ℕ
 stepCeiling f = sumOfProducts (factorFor (someTied (plannedBytes f) (f .n) (f .m)) (plannedBytes f) (f .m)) (f .n)
 
--- the answer by the outcome of the table's tests: a refused table has ceiling 0
-unfoldable pub ceilingBy : Outcome → Fields → StepCeiling
-ceilingBy (Refused cause) f = record { outcome = Refused cause; ceiling = 0 }
-ceilingBy Accepted f = record { outcome = Accepted; ceiling = stepCeiling f }
+-- the answer for fields within the limits
+unfoldable pub ceilingFor : Fields → StepCeiling
+ceilingFor f = record { outcome = Accepted; ceiling = stepCeiling f }
 
--- the answer for a table, the charge and the core bytes beside it
-unfoldable pub ceilingOf : List ℕ → ℕ → List ℕ → StepCeiling
-ceilingOf s charge affinity = ceilingBy (tableOutcome s charge affinity) (fieldsOf s charge affinity)
+-- a refused table has ceiling 0
+unfoldable pub refusedCeiling : Cause → StepCeiling
+refusedCeiling cause = record { outcome = Refused cause; ceiling = 0 }
+
+-- the answer by the outcome of a table's tests and by its fields
+unfoldable pub ceilingBy : Outcome → Fields → StepCeiling
+ceilingBy = byOutcome refusedCeiling ceilingFor
+
+-- the answer for a table
+unfoldable pub ceilingOf : Table → StepCeiling
+ceilingOf t = ceilingBy (t .outcome) (t .fields)

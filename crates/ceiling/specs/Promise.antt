@@ -8,13 +8,14 @@ use lib.ListN.{length}
 use Rattle.numbers.specs.Rows.{entry}
 use Rattle.numbers.specs.Sums.{sumFromOne, productFromOne}
 use Rattle.affinity.specs.Permitted.{permitted}
+use Rattle.refusal.specs.Causes.{numberIn}
 use Rattle.taskset.specs.Fields.{affinityAt, Free, Tied}
 use Rattle.taskset.specs.declared.Fields.{Fields}
-use Rattle.stored.specs.Form.{fieldsOf, taskCount, coreCount}
-use Rattle.stored.specs.Limits.{Valid}
-use Rattle.planner.specs.Problem.{orderOf}
+use Rattle.taskset.specs.Table.{Table}
+use Rattle.planning.specs.Problem.{orderOf}
+use Rattle.plans.specs.Safe.{StatedOrder}
 use Rattle.planner.specs.Plan.{planOf}
-use Rattle.planner.specs.Promise.{walkOf, StatedOrder}
+use Rattle.planner.specs.Promise.{walkOf}
 use Rattle.planner.specs.declared.Verdict.the-variants.{Spent}
 use Rattle.ceiling.specs.declared.StepCeiling.{StepCeiling}
 
@@ -34,10 +35,13 @@ pub record Ceils (f : Fields) (x : ℕ) : Type 0 where
   -- The steps of the complete walk never exceed it.
   pub steps : length (walkOf f) ≤ x
 
-pub record Promise (table : List ℕ) (charge : ℕ) (affinity : List ℕ) (r : StepCeiling) : Type 0 where
-  pub valid : Valid table charge affinity → Ceils (fieldsOf table charge affinity) (r .ceiling)
+-- What is promised of the answer for a table.
+pub record Promise (t : Table) (r : StepCeiling) : Type 0 where
+  pub valid : t .Valid → Ceils (t .fields) (r .ceiling)
   -- The exact planner with a limit at or above it is never spent.
-  pub unspent : (limit : ℕ) → r .ceiling ≤ limit → planOf table charge affinity limit .verdict ≢ Spent
+  pub unspent : (limit : ℕ) → r .ceiling ≤ limit → planOf t limit .verdict ≢ Spent
+  -- A refused table's is 0.
+  pub refused : numberIn (r .outcome) ≢ 0 → r .ceiling ≡ 0
 
 -- where every core is permitted, the ceiling of n tasks on m cores
 abbrev pub freeCeiling : ℕ → ℕ → ℕ
@@ -55,9 +59,5 @@ pub record Worked : Type 0 where
   pub four : fourCeilings 4 ≡ 152 ∷ 93752 ∷ 58593752 ∷ 36621093752 ∷ []
 
 -- A table of so few tasks for its cores that 1,000,000 steps always suffice where every core is permitted.
-abbrev pub Few : List ℕ → Type 0
-Few table =
-    (coreCount table ≡ 1)
-    ⊎ ((coreCount table ≡ 2) × (taskCount table ≤ 12))
-    ⊎ ((coreCount table ≡ 3) × (taskCount table ≤ 10))
-    ⊎ ((coreCount table ≡ 4) × (taskCount table ≤ 9))
+abbrev pub Few : Fields → Type 0
+Few f = (f .m ≡ 1) ⊎ ((f .m ≡ 2) × (f .n ≤ 12)) ⊎ ((f .m ≡ 3) × (f .n ≤ 10)) ⊎ ((f .m ≡ 4) × (f .n ≤ 9))

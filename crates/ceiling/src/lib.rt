@@ -1,15 +1,14 @@
 // The step ceiling of a table: as many steps as the exact planner's walk has at most.
 ghost use mathlib.Core.Path.{_≡_};
-ghost use mathlib.Core.Logic.{_≢_};
 ghost use Prim.Native.Nat.{_+_, _*_, _≤_, _<_, min};
 ghost use lib.ListN.{take};
-ghost use Rattle.refusal.specs.Causes.{numberIn};
-ghost use Rattle.refusal.specs.Conditions.{Decides};
-ghost use Rattle.taskset.specs.Limits.{Checked};
-ghost use Rattle.stored.specs.Limits.{Valid, conditions};
-ghost use Rattle.ceiling.specs.Ceiling.{someTied, factorFor, sumOfProducts, stepCeiling, ceilingOf};
+ghost use Rattle.taskset.specs.Limits.{Checked, Reads};
+ghost use Rattle.taskset.specs.Table.{Decided};
+ghost use Rattle.stored.specs.Limits.{beside};
+ghost use Rattle.ceiling.specs.Ceiling.{someTied, factorFor, sumOfProducts, stepCeiling, ceilingBy, ceilingOf};
 ghost use Rattle.ceiling.specs.Promise.{Promise};
 use refusal::Outcome;
+use taskset::Reading;
 use taskset::TaskSet;
 
 // The answer: a refused table has ceiling 0.
@@ -83,20 +82,17 @@ fn ceiling_of(t: TaskSet) -> u64
 {
     let n = t.fields.n;
     let order = planning::planning_order(t);
-    let bytes = t.fields.affinity;
-    let permitted = planning::bytes_in_planning_order(bytes, order, n);
+    let prepared = planning::prepare(t, order);
+    let permitted = prepared.affinity;
     let tied = some_tied(permitted, n, t.fields.m);
     sum_of_products(tied, permitted, n, t.fields.m as u64)
 }
 
-// The step ceiling of a stored table on a board with this charge and with these core bytes, to set the exact planner's limit by.
-pub fn step_ceiling(table: &[u8], charge: u32, affinity: &[u8]) -> StepCeiling
-    ensures answer { λ r. ⌜ r ≡ ceilingOf (now (table .entry)) charge (now (affinity .entry)) ⌝ }
-    ensures decides { λ r. ⌜ Decides (Valid (now (table .entry)) charge (now (affinity .entry))) (conditions (now (table .entry)) charge (now (affinity .entry))) (r .outcome) ⌝ }
-    ensures promise { λ r. ⌜ Promise (now (table .entry)) charge (now (affinity .entry)) r ⌝ }
-    ensures refused { λ r. ⌜ (numberIn (r .outcome) ≢ 0 → r .ceiling ≡ 0) ⌝ }
+// The step ceiling of a table that was read, whatever its stored form.
+pub fn ceiling_read(reading: Reading) -> StepCeiling
+    requires { ⌜ Reads reading ⌝ }
+    ensures { λ r. ⌜ r ≡ ceilingBy (reading .outcome) (reading .tasks .fields) ⌝ }
 {
-    let reading = stored::read_beside(table, charge, affinity);
     let outcome = reading.outcome;
     match outcome {
         Outcome::Refused(cause) => StepCeiling {
@@ -111,4 +107,14 @@ pub fn step_ceiling(table: &[u8], charge: u32, affinity: &[u8]) -> StepCeiling
             }
         }
     }
+}
+
+// The step ceiling of a stored table on a board with this charge and with these core bytes, to set the exact planner's limit by.
+pub fn step_ceiling(table: &[u8], charge: u32, affinity: &[u8]) -> StepCeiling
+    ensures answer { λ r. ⌜ r ≡ ceilingOf (beside (now (table .entry)) charge (now (affinity .entry))) ⌝ }
+    ensures decides { λ r. ⌜ Decided (beside (now (table .entry)) charge (now (affinity .entry))) (r .outcome) ⌝ }
+    ensures promise { λ r. ⌜ Promise (beside (now (table .entry)) charge (now (affinity .entry))) r ⌝ }
+{
+    let reading = stored::read_beside(table, charge, affinity);
+    ceiling_read(reading)
 }

@@ -1,27 +1,24 @@
 -- What the firmware entry returns and what it leaves in the plan buffer. Its table is in the new form.
-use Prim.Native.Nat.{ℕ, _+_}
-use mathlib.Core.List.{List, _++_}
-use lib.Dec.{ltb}
-use lib.ListN.{length, take, drop}
+use Prim.Native.Nat.{ℕ, _+_, _≤_}
+use mathlib.Core.List.{List, [], _∷_, _++_}
+use lib.ListN.{take, drop}
 use Rattle.refusal.specs.Causes.{numberOf}
-use Rattle.refusal.specs.Tests.{_then_, refuseIf}
+use Rattle.refusal.specs.Tests.{roomTest, byOutcome}
+use Rattle.refusal.specs.Conditions.{noRoom}
 use Rattle.refusal.specs.declared.Cause.the-variants.{Buffer}
-use Rattle.refusal.specs.declared.Outcome.{Outcome}
-use Rattle.refusal.specs.declared.Outcome.the-variants as outcome
-use Rattle.setup.specs.Form.{taskCount}
-use Rattle.setup.specs.Tests.{setupOutcome}
-use Rattle.planner.specs.Plan.{setupPlan}
-use Rattle.planner.specs.declared.Allocation.{Allocation}
+use Rattle.taskset.specs.Table.{Table, also}
+use Rattle.setup.specs.Limits.{new}
+use Rattle.planner.specs.Plan.{planFor, planOf}
 use Rattle.planner.specs.declared.Verdict.{Verdict}
 use Rattle.planner.specs.declared.Verdict.the-variants.{All, Short, Spent, Refused}
 
--- number 8: the lent plan buffer is shorter than n
-abbrev pub bufferTest : ℕ → ℕ → Outcome
-bufferTest n room = refuseIf (ltb room n) Buffer
+-- a table and a lent plan buffer: the table's numbers, then 8, a buffer shorter than n
+abbrev pub withBuffer : Table → ℕ → Table
+withBuffer t room = also t (roomTest Buffer (t .fields .n) room) (t .fields .n ≤ room) (noRoom 8 (t .fields .n) room ∷ [])
 
--- the table's numbers, then 8
-unfoldable pub callOutcome : List ℕ → ℕ → Outcome
-callOutcome s room = setupOutcome s then bufferTest (taskCount s) room
+-- what the entry is given: a table in the new form and a buffer of this length
+abbrev pub called : List ℕ → ℕ → Table
+called s room = withBuffer (new s) room
 
 -- the number that the firmware is given: 0 all, 1 short, 2 spent, or 100 plus the refusal number
 abbrev pub codeOf : Verdict → ℕ
@@ -30,20 +27,10 @@ codeOf Short = 1
 codeOf Spent = 2
 codeOf (Refused cause) = 100 + numberOf cause
 
--- the code by the outcome of the tests: a refusal's, or that of the plan's verdict
-unfoldable pub codeBy : Outcome → Allocation → ℕ
-codeBy (outcome.Refused cause) p = codeOf (Refused cause)
-codeBy outcome.Accepted p = codeOf (p .verdict)
+-- what the entry returns within a step limit
+unfoldable pub codeFor : Table → ℕ → ℕ
+codeFor t limit = codeOf (planOf t limit .verdict)
 
--- the buffer by the outcome of the tests: as it was, or with the first n core numbers in front
-unfoldable pub bufferBy : Outcome → ℕ → Allocation → List ℕ → List ℕ
-bufferBy (outcome.Refused cause) n p buffer = buffer
-bufferBy outcome.Accepted n p buffer = take n (p .placement) ++ drop n buffer
-
--- what the entry returns for a table, a step limit and a buffer of this length
-unfoldable pub codeFor : List ℕ → ℕ → ℕ → ℕ
-codeFor s limit room = codeBy (callOutcome s room) (setupPlan s limit)
-
--- every byte of the buffer at exit
-unfoldable pub bufferAfter : List ℕ → ℕ → List ℕ → List ℕ
-bufferAfter s limit buffer = bufferBy (callOutcome s (length buffer)) (taskCount s) (setupPlan s limit) buffer
+-- every byte of the buffer at exit: as it was, or with the first n core numbers in front
+unfoldable pub bufferAfter : Table → ℕ → List ℕ → List ℕ
+bufferAfter t limit buffer = byOutcome (λ cause. buffer) (λ f. take (f .n) (planFor f limit .placement) ++ drop (f .n) buffer) (t .outcome) (t .fields)

@@ -2,18 +2,11 @@
 ghost use mathlib.Core.Path.{_≡_};
 ghost use Prim.Native.Nat.{_≤_};
 ghost use lib.ListN.{length};
-ghost use Rattle.firmware.specs.Call.{bufferTest, codeOf, codeFor, bufferAfter};
+ghost use Rattle.firmware.specs.Call.{called, codeOf, codeFor, bufferAfter};
 ghost use Rattle.firmware.specs.Service.{Answers, Keeps};
 use planner::Verdict;
 use refusal::Cause;
 use refusal::Outcome;
-
-// Number 8: the plan buffer is shorter than n.
-fn buffer_test(n: usize, room: usize) -> Outcome
-    ensures { λ r. ⌜ r ≡ bufferTest n room ⌝ }
-{
-    refusal::refuse_if(room < n, Cause::Buffer)
-}
 
 // The number that the firmware is given for a verdict.
 fn code(verdict: Verdict) -> u32
@@ -29,13 +22,13 @@ fn code(verdict: Verdict) -> u32
 
 // Plans a table in the new form and writes the plan; the entry's work, in a function of its own since the entry then takes less stack.
 fn plan_into(table: &[u8], limit: u32, plan: &mut [u8]) -> u32
-    ensures code { λ r. ⌜ r ≡ codeFor (now (table .entry)) limit (length (now (plan .entry))) ⌝ }
-    ensures buffer { λ r. ⌜ now (plan .exit) ≡ bufferAfter (now (table .entry)) limit (now (plan .entry)) ⌝ }
+    ensures code { λ r. ⌜ r ≡ codeFor (called (now (table .entry)) (length (now (plan .entry)))) limit ⌝ }
+    ensures buffer { λ r. ⌜ now (plan .exit) ≡ bufferAfter (called (now (table .entry)) (length (now (plan .entry)))) limit (now (plan .entry)) ⌝ }
 {
     let reading = setup::read_setup(table);
     let n = reading.tasks.fields.n;
     let read = reading.outcome;
-    let fits = buffer_test(n, plan.len());
+    let fits = refusal::room_test(Cause::Buffer, n, plan.len());
     let outcome = refusal::then(read, fits);
     match outcome {
         Outcome::Refused(cause) => code(Verdict::Refused(cause)),
@@ -53,10 +46,10 @@ fn plan_into(table: &[u8], limit: u32, plan: &mut [u8]) -> u32
 // The n core numbers go to the front of `plan`; a refusal writes nothing.
 #[no_mangle]
 pub extern "C" fn millplan_plan(table: &[u8], limit: u32, plan: &mut [u8]) -> u32
-    ensures code { λ r. ⌜ r ≡ codeFor (now (table .entry)) limit (length (now (plan .entry))) ⌝ }
-    ensures buffer { λ r. ⌜ now (plan .exit) ≡ bufferAfter (now (table .entry)) limit (now (plan .entry)) ⌝ }
-    ensures answers { λ r. ⌜ Answers (now (table .entry)) (now (plan .entry)) r (now (plan .exit)) ⌝ }
-    ensures keeps { λ r. ⌜ (r ≤ 2 → Keeps (now (table .entry)) (now (plan .entry)) limit r (now (plan .exit))) ⌝ }
+    ensures code { λ r. ⌜ r ≡ codeFor (called (now (table .entry)) (length (now (plan .entry)))) limit ⌝ }
+    ensures buffer { λ r. ⌜ now (plan .exit) ≡ bufferAfter (called (now (table .entry)) (length (now (plan .entry)))) limit (now (plan .entry)) ⌝ }
+    ensures answers { λ r. ⌜ Answers (called (now (table .entry)) (length (now (plan .entry)))) (now (plan .entry)) r (now (plan .exit)) ⌝ }
+    ensures keeps { λ r. ⌜ (r ≤ 2 → Keeps (called (now (table .entry)) (length (now (plan .entry)))) (now (plan .entry)) limit r (now (plan .exit))) ⌝ }
 {
     plan_into(table, limit, plan)
 }

@@ -1,83 +1,102 @@
 -- What W7 asks of the two stored forms holds.
 use Prim.Native.Nat.{ℕ, _+_, _*_, _≤_, _<_}
-use mathlib.Core.Path.{_≡_, refl, sym, _∙_, ap}
+use mathlib.Core.Path.{_≡_, refl, sym, _∙_, ap, ap₂}
 use mathlib.Core.List.{List, [], _++_, append-nil}
 use lib.ListN.{length, take, drop}
 use lib.Seq.{getD-take}
-use borrow.Author.Tests.{le-ltb}
 use Rattle.numbers.proofs.RowLaws.{row-cong}
 use Rattle.wire.specs.Bytes.{wordAt}
 use Rattle.wire.proofs.WriteBackLaws.{front-long}
-use Rattle.refusal.specs.Tests.{_then_, refuseIf}
 use Rattle.refusal.specs.declared.Outcome.the-variants.{Accepted}
 use Rattle.refusal.proofs.ConditionLaws.{accepts}
 use Rattle.taskset.specs.Fields.{periodAt, budgetAt, cut}
+use Rattle.taskset.specs.Reading.{acceptedReading}
 use Rattle.taskset.specs.Limits.{Within}
+use Rattle.taskset.specs.Table.{Table, readingOf}
 use Rattle.taskset.specs.declared.Fields.{Fields}
 use Rattle.taskset.proofs.LimitLaws.{affinity-there}
-use Rattle.stored.specs.Form.{fieldsOf, everyAffinity, taskCount, tableBytes}
-use Rattle.stored.specs.Tests.{readingOf}
-use Rattle.stored.specs.Limits.{Valid}
+use Rattle.taskset.proofs.TableLaws.{table-accepts, read-outcome, read-fields, valid-reading, answers-alike}
+use Rattle.stored.specs.Form.{fieldsOf, tableBytes}
+use Rattle.stored.specs.Limits.{beside, alone}
 use Rattle.stored.proofs.BackLaws.{table-long, table-form}
-use Rattle.stored.proofs.TableLaws as table
-use Rattle.setup.specs.Form as form
+use Rattle.stored.proofs.TableLaws.{beside-sound, alone-sound}
 use Rattle.setup.specs.Form.{setupFields}
-use Rattle.setup.specs.Tests.{setupOutcome, setupReading}
-use Rattle.setup.specs.Limits.{ValidSetup}
+use Rattle.setup.specs.Limits.{new}
 use Rattle.setup.proofs.BackLaws.{cut-read}
-use Rattle.setup.proofs.SetupLaws as setup
+use Rattle.setup.proofs.SetupLaws.{new-sound}
 use Rattle.transfer.proofs.CallLaws.{write-decides, write-stores, write-back, write-unread, read-written, new-decides, new-stores, new-moved, old-decides, old-stores, old-moved}
-use Rattle.planner.specs.Plan.{planOf, setupPlan}
-use Rattle.planner.proofs.PlanLaws.{plan-accepted, fields-are, setup-planned}
-use Rattle.quick.specs.Quick.{quickOf, setupQuick}
-use Rattle.firmware.specs.Call.{callOutcome, codeOf, codeBy, bufferBy, codeFor, bufferAfter}
-use Rattle.guarantees.specs.Forms.{newIn, oldIn, besideOf, MovesOn, MovesBack, Forms}
+use Rattle.planner.specs.Plan.{planFor, refusedPlan, planBy, planOf, verdictOutcome}
+use Rattle.planner.proofs.PlanLaws.{plan-accepted-is}
+use Rattle.quick.specs.Quick.{quickFor, refusedQuick, quickBy, quickOf}
+use Rattle.ceiling.specs.Ceiling.{ceilingFor, refusedCeiling, ceilingBy, ceilingOf}
+use Rattle.listing.specs.Printed.{printed}
+use Rattle.report.specs.Output.{planLines, outputOf}
+use Rattle.quickreport.specs.Output.{quickLines, quickOutputOf}
+use Rattle.firmware.specs.Call.{called, codeOf, codeFor, bufferAfter}
+use Rattle.firmware.proofs.CallLaws.{called-sound, code-accepted-is, buffer-accepted-is}
+use Rattle.guarantees.specs.Forms.{newIn, besideOf, MovesOn, Forms, AnsweredAlike}
+
+-- ---- tables that read alike
+
+module _ (t u : Table) (e : readingOf t ≡ readingOf u) where
+  plans-same : (limit : ℕ) → planOf t limit ≡ planOf u limit
+  unfolding planOf planBy
+  plans-same limit = answers-alike t u e refusedPlan (λ f. planFor f limit)
+
+  quick-same : quickOf t ≡ quickOf u
+  unfolding quickOf quickBy
+  quick-same = answers-alike t u e refusedQuick quickFor
+
+  ceiling-same : ceilingOf t ≡ ceilingOf u
+  unfolding ceilingOf ceilingBy
+  ceiling-same = answers-alike t u e refusedCeiling ceilingFor
+
+  output-same : outputOf t ≡ outputOf u
+  unfolding outputOf
+  output-same = ap₂ (λ r p. printed (verdictOutcome (p .verdict)) (planLines (r .tasks) p)) e (plans-same 1000000)
+
+  quick-output-same : quickOutputOf t ≡ quickOutputOf u
+  unfolding quickOutputOf
+  quick-output-same = ap₂ (λ r p. printed (p .outcome) (quickLines (r .tasks) p)) e quick-same
+
+pub answered-alike : AnsweredAlike
+answered-alike t u e = record { plans = plans-same t u e; quick = quick-same t u e; ceiling = ceiling-same t u e; output = output-same t u e; quick-output = quick-output-same t u e }
 
 -- ---- a table that was moved to the new form
 
 module _ (s out : List ℕ) (moved : MovesOn s out) where
-  reads-alike : setupReading (newIn s out) ≡ readingOf s 0 (everyAffinity s)
+  reads-alike : readingOf (new (newIn s out)) ≡ readingOf (alone s)
   reads-alike = new-moved s out refl refl (moved .bytes) .reads (moved .accepted)
 
-  well : readingOf s 0 (everyAffinity s) .outcome ≡ Accepted
-  well = accepts (table.read-alone s refl) .1 (accepts (new-decides s out refl refl) .0 (moved .accepted) .0)
+  valid : alone s .Valid
+  unfolding alone
+  valid = accepts (new-decides s out refl refl) .0 (moved .accepted) .0
 
-  plans-alike : (limit : ℕ) → setupPlan (newIn s out) limit ≡ planOf s 0 (everyAffinity s) limit
-  plans-alike limit =
-      sym (setup-planned (newIn s out) (sym reads-alike) limit well refl) ∙ plan-accepted s 0 (everyAffinity s) refl limit well refl
+  well : readingOf (alone s) .outcome ≡ Accepted
+  well = read-outcome (alone s) refl ∙ table-accepts (alone-sound s) .1 valid
 
-  accepted-on : setupOutcome (newIn s out) ≡ Accepted
-  accepted-on = sym (setup.read-outcome (newIn s out) (sym reads-alike)) ∙ well
+  valid-on : new (newIn s out) .Valid
+  valid-on = table-accepts (new-sound (newIn s out)) .0 (sym (read-outcome (new (newIn s out)) (sym reads-alike)) ∙ well)
 
-  tasks-on : form.taskCount (newIn s out) ≡ taskCount s
-  unfolding setupFields fieldsOf
-  tasks-on = ap (λ f. f .n) (sym (setup.read-fields (newIn s out) (sym reads-alike) well) ∙ fields-are s 0 (everyAffinity s) refl well)
+  fields-on : new (newIn s out) .fields ≡ alone s .fields
+  fields-on = sym (read-fields (new (newIn s out)) (sym reads-alike) well) ∙ read-fields (alone s) refl well
 
-  call-on : (room : ℕ) → taskCount s ≤ room → callOutcome (newIn s out) room ≡ Accepted
-  unfolding callOutcome _then_ refuseIf
-  call-on room h = rw (accepted-on, tasks-on, le-ltb room (taskCount s) h)
+  -- the firmware's call, where its buffer has room
+  module _ (room : ℕ) (h : alone s .fields .n ≤ room) where
+    call-on : called (newIn s out) room .outcome ≡ Accepted
+    call-on = table-accepts (called-sound (newIn s out) room) .1 (valid-on, rw fields-on h)
 
-  code-alike : (limit room : ℕ) → taskCount s ≤ room → codeFor (newIn s out) limit room ≡ codeOf (planOf s 0 (everyAffinity s) limit .verdict)
-  unfolding codeFor codeBy
-  code-alike limit room h = rw (call-on room h, plans-alike limit)
+    plan-on : (limit : ℕ) → planFor (new (newIn s out) .fields) limit ≡ planOf (alone s) limit
+    plan-on limit = ap (λ f. planFor f limit) fields-on ∙ sym (plan-accepted-is (alone s) limit (table-accepts (alone-sound s) .1 valid))
 
-  buffer-alike : (limit : ℕ) (buffer : List ℕ) → taskCount s ≤ length buffer
-      → bufferAfter (newIn s out) limit buffer ≡ take (taskCount s) (planOf s 0 (everyAffinity s) limit .placement) ++ drop (taskCount s) buffer
-  unfolding bufferAfter bufferBy
-  buffer-alike limit buffer h = rw (call-on (length buffer) h, plans-alike limit, tasks-on)
+  code-alike : (limit room : ℕ) → alone s .fields .n ≤ room → codeFor (called (newIn s out) room) limit ≡ codeOf (planOf (alone s) limit .verdict)
+  code-alike limit room h = code-accepted-is (called (newIn s out) room) limit [] (call-on room h) ∙ ap (λ a. codeOf (a .verdict)) (plan-on room h limit)
 
--- ---- a table that was moved back
-
-module _ (s out : List ℕ) (moved : MovesBack s out) where
-  reads-alike-back : readingOf (oldIn s out) 0 (everyAffinity (oldIn s out)) ≡ setupReading s
-  reads-alike-back = old-moved s out refl refl (moved .bytes) .reads (moved .accepted)
-
-  well-back : setupReading s .outcome ≡ Accepted
-  well-back = accepts (setup.read-decides s refl) .1 (accepts (old-decides s out refl refl) .0 (moved .accepted) .0 .0)
-
-  plans-alike-back : (limit : ℕ) → planOf (oldIn s out) 0 (everyAffinity (oldIn s out)) limit ≡ setupPlan s limit
-  plans-alike-back limit =
-      sym (plan-accepted (oldIn s out) 0 (everyAffinity (oldIn s out)) (sym reads-alike-back) limit well-back refl) ∙ setup-planned s refl limit well-back refl
+  buffer-alike : (limit : ℕ) (buffer : List ℕ) → alone s .fields .n ≤ length buffer
+      → bufferAfter (called (newIn s out) (length buffer)) limit buffer ≡ take (alone s .fields .n) (planOf (alone s) limit .placement) ++ drop (alone s .fields .n) buffer
+  buffer-alike limit buffer h =
+      buffer-accepted-is (called (newIn s out) (length buffer)) limit buffer (call-on (length buffer) h)
+      ∙ ap₂ (λ f a. take (f .n) (a .placement) ++ drop (f .n) buffer) fields-on (plan-on (length buffer) h limit)
 
 -- ---- a table of the new form as one of the old, with its charge and core bytes beside it
 
@@ -102,22 +121,17 @@ module _ (f : Fields) (w : Within f) where
     given = front-long (f .affinity) (affinity-there f w) i;
   }
 
-module _ (s : List ℕ) (v : ValidSetup s) where
-  fields-beside : fieldsOf (tableBytes (setupFields s)) (form.chargeByte s) (besideOf s) ≡ setupFields s
-  unfolding setupFields
+module _ (s : List ℕ) (v : new s .Valid) where
+  fields-beside : besideOf s .fields ≡ new s .fields
+  unfolding beside new setupFields
   fields-beside = parts-read (setupFields s) (v .fields) ∙ cut-read s (v .fields .sizes .tasks .1)
 
-  valid-beside : Valid (tableBytes (setupFields s)) (form.chargeByte s) (besideOf s)
-  unfolding tableBytes
+  valid-beside : besideOf s .Valid
+  unfolding beside new tableBytes
   valid-beside = record { exact = table-long (setupFields s) (v .fields); fields = rw fields-beside (v .fields) }
 
-  plans-beside : (limit : ℕ) → planOf (tableBytes (setupFields s)) (form.chargeByte s) (besideOf s) limit ≡ setupPlan s limit
-  unfolding planOf setupPlan
-  plans-beside limit = rw (table.table-accepts _ _ _ .1 valid-beside, setup.setup-accepts s .1 v, fields-beside)
-
-  quick-beside : quickOf (tableBytes (setupFields s)) (form.chargeByte s) (besideOf s) ≡ setupQuick s
-  unfolding quickOf setupQuick
-  quick-beside = rw (table.table-accepts _ _ _ .1 valid-beside, setup.setup-accepts s .1 v, fields-beside)
+  reads-beside : readingOf (besideOf s) ≡ readingOf (new s)
+  reads-beside = valid-reading (beside-sound _ _ _) valid-beside ∙ ap acceptedReading fields-beside ∙ sym (valid-reading (new-sound s) v)
 
 pub forms : Forms
 forms = record {
@@ -133,13 +147,10 @@ forms = record {
   there-and-back = λ s out m. new-moved s out refl refl (m .bytes) .returns (m .accepted);
   back-and-there = λ s out m. old-moved s out refl refl (m .bytes) .returns (m .accepted);
   reads-alike = reads-alike;
-  plans-alike = plans-alike;
-  reads-alike-back = reads-alike-back;
-  plans-alike-back = plans-alike-back;
+  reads-alike-back = λ s out m. old-moved s out refl refl (m .bytes) .reads (m .accepted);
   code-alike = code-alike;
   buffer-alike = buffer-alike;
   valid-beside = valid-beside;
   fields-beside = fields-beside;
-  plans-beside = plans-beside;
-  quick-beside = quick-beside;
+  reads-beside = reads-beside;
 }

@@ -9,19 +9,21 @@ use Rattle.refusal.specs.declared.Outcome.the-variants.{Accepted}
 use Rattle.taskset.specs.Fields.{cut, Alike}
 use Rattle.taskset.specs.Reading.{acceptedReading}
 use Rattle.taskset.specs.declared.Fields.{Fields}
-use Rattle.stored.specs.Form.{everyAffinity, fieldsOf, fieldsAlone, tableBytes, taskCount, OldForm}
-use Rattle.stored.specs.Tests.{readingOf}
-use Rattle.stored.specs.Limits.{Valid}
+use Rattle.taskset.specs.Table.{Table, readingOf}
+use Rattle.stored.specs.Form.{fieldsAlone, tableBytes, taskCount, OldForm}
+use Rattle.stored.specs.Limits.{beside, alone}
 use Rattle.setup.specs.Form as setup
 use Rattle.setup.specs.Form.{setupFields, NewForm}
-use Rattle.setup.specs.Tests.{setupReading}
-use Rattle.setup.specs.Limits.{ValidSetup}
+use Rattle.setup.specs.Limits.{ValidSetup, new}
 use Rattle.transfer.specs.Calls.{writeAnswer, writeOutput, newAnswer, newOutput, oldAnswer, oldOutput}
 use Rattle.transfer.specs.Limits.{ValidWrite, writeConditions, ValidNew, newConditions, ValidOld, oldConditions}
 use Rattle.transfer.specs.Promise.{Stores, storedIn, Yields}
-use Rattle.planner.specs.Plan.{planOf, setupPlan}
-use Rattle.quick.specs.Quick.{quickOf, setupQuick}
-use Rattle.firmware.specs.Call.{codeOf, codeFor, bufferAfter}
+use Rattle.planner.specs.Plan.{planOf}
+use Rattle.quick.specs.Quick.{quickOf}
+use Rattle.ceiling.specs.Ceiling.{ceilingOf}
+use Rattle.report.specs.Output.{outputOf}
+use Rattle.quickreport.specs.Output.{quickOutputOf}
+use Rattle.firmware.specs.Call.{called, codeOf, codeFor, bufferAfter}
 
 -- the table that an accepted call left in front of an output: the writer, the move to the new form, the move back
 abbrev pub writtenIn : Fields → List ℕ → List ℕ
@@ -33,9 +35,9 @@ newIn table out = storedIn (newAnswer table (length out)) (newOutput table out)
 abbrev pub oldIn : List ℕ → List ℕ → List ℕ
 oldIn table out = storedIn (oldAnswer table (length out)) (oldOutput table out)
 
--- what stands beside a table of the new form once its sizes, periods and times are in the old one: its core bytes
-abbrev pub besideOf : List ℕ → List ℕ
-besideOf table = take (setup.taskCount table) (setupFields table .affinity)
+-- a table of the new form in the old one, with its charge and its core bytes beside it
+abbrev pub besideOf : List ℕ → Table
+besideOf table = beside (tableBytes (setupFields table)) (setup.chargeByte table) (take (setup.taskCount table) (setupFields table .affinity))
 
 -- A call that is accepted: a table of bytes that the move takes to the new form, and one that the move takes back.
 pub record MovesOn (table out : List ℕ) : Type 0 where
@@ -57,26 +59,36 @@ pub record Forms : Type 0 where
   pub moved-on : (table out : List ℕ) → Stores (NewForm (fieldsAlone table)) (4 + 9 * taskCount table) out (newAnswer table (length out)) (newOutput table out)
   pub moved-back : (table out : List ℕ) → Stores (OldForm (setupFields table)) (2 + 8 * setup.taskCount table) out (oldAnswer table (length out)) (oldOutput table out)
   -- Reading what the writer wrote gives its fields, with 0 beyond n; writing what was read gives the bytes.
-  pub read-back : (fields : Fields) (out : List ℕ) → writeAnswer fields (length out) .outcome ≡ Accepted → setupReading (writtenIn fields out) ≡ acceptedReading (cut fields)
+  pub read-back : (fields : Fields) (out : List ℕ) → writeAnswer fields (length out) .outcome ≡ Accepted → readingOf (new (writtenIn fields out)) ≡ acceptedReading (cut fields)
   pub write-back : (table : List ℕ) → Bytes table → ValidSetup table → Yields (writeAnswer (setupFields table)) (writeOutput (setupFields table)) table
   -- The writer reads nothing beyond n: fields that are equal up to n give the same answer and output.
   pub unread : (f g : Fields) → Alike f g → (out : List ℕ) → (writeAnswer g (length out) ≡ writeAnswer f (length out)) × (writeOutput g out ≡ writeOutput f out)
   -- Old to new to old gives the same bytes, and so does new to old to new where the move back is accepted.
   pub there-and-back : (table out : List ℕ) → MovesOn table out → Yields (oldAnswer (newIn table out)) (oldOutput (newIn table out)) table
   pub back-and-there : (table out : List ℕ) → MovesBack table out → Yields (newAnswer (oldIn table out)) (newOutput (oldIn table out)) table
-  -- A moved table reads and plans as it did by itself, with charge 0 and every core permitted,
-  pub reads-alike : (table out : List ℕ) → MovesOn table out → setupReading (newIn table out) ≡ readingOf table 0 (everyAffinity table)
-  pub plans-alike : (table out : List ℕ) → MovesOn table out → (limit : ℕ) → setupPlan (newIn table out) limit ≡ planOf table 0 (everyAffinity table) limit
-  pub reads-alike-back : (table out : List ℕ) → MovesBack table out → readingOf (oldIn table out) 0 (everyAffinity (oldIn table out)) ≡ setupReading table
-  pub plans-alike-back : (table out : List ℕ) → MovesBack table out → (limit : ℕ) → planOf (oldIn table out) 0 (everyAffinity (oldIn table out)) limit ≡ setupPlan table limit
+  -- A moved table reads as it did by itself, with charge 0 and every core permitted, so that every call answers the same (`SameAnswers`),
+  pub reads-alike : (table out : List ℕ) → MovesOn table out → readingOf (new (newIn table out)) ≡ readingOf (alone table)
+  pub reads-alike-back : (table out : List ℕ) → MovesBack table out → readingOf (alone (oldIn table out)) ≡ readingOf (new table)
   -- and the firmware is given that plan's code and core numbers, if its buffer has room for them.
-  pub code-alike : (table out : List ℕ) → MovesOn table out → (limit room : ℕ) → taskCount table ≤ room
-      → codeFor (newIn table out) limit room ≡ codeOf (planOf table 0 (everyAffinity table) limit .verdict)
-  pub buffer-alike : (table out : List ℕ) → MovesOn table out → (limit : ℕ) (buffer : List ℕ) → taskCount table ≤ length buffer
-      → bufferAfter (newIn table out) limit buffer ≡ take (taskCount table) (planOf table 0 (everyAffinity table) limit .placement) ++ drop (taskCount table) buffer
+  pub code-alike : (table out : List ℕ) → MovesOn table out → (limit room : ℕ) → alone table .fields .n ≤ room
+      → codeFor (called (newIn table out) room) limit ≡ codeOf (planOf (alone table) limit .verdict)
+  pub buffer-alike : (table out : List ℕ) → MovesOn table out → (limit : ℕ) (buffer : List ℕ) → alone table .fields .n ≤ length buffer
+      → bufferAfter (called (newIn table out) (length buffer)) limit buffer
+      ≡ take (alone table .fields .n) (planOf (alone table) limit .placement) ++ drop (alone table .fields .n) buffer
   -- More than was asked: every table of the new form, with its charge and its core bytes beside it in the old form, is valid there, has the same fields,
-  -- and gets the same plans, so that what is said of the calls that keep the old form is said of it.
-  pub valid-beside : (table : List ℕ) → ValidSetup table → Valid (tableBytes (setupFields table)) (setup.chargeByte table) (besideOf table)
-  pub fields-beside : (table : List ℕ) → ValidSetup table → fieldsOf (tableBytes (setupFields table)) (setup.chargeByte table) (besideOf table) ≡ setupFields table
-  pub plans-beside : (table : List ℕ) → ValidSetup table → (limit : ℕ) → planOf (tableBytes (setupFields table)) (setup.chargeByte table) (besideOf table) limit ≡ setupPlan table limit
-  pub quick-beside : (table : List ℕ) → ValidSetup table → quickOf (tableBytes (setupFields table)) (setup.chargeByte table) (besideOf table) ≡ setupQuick table
+  -- and reads alike, so that what is said of the calls that keep the old form is said of it.
+  pub valid-beside : (table : List ℕ) → new table .Valid → besideOf table .Valid
+  pub fields-beside : (table : List ℕ) → new table .Valid → besideOf table .fields ≡ new table .fields
+  pub reads-beside : (table : List ℕ) → new table .Valid → readingOf (besideOf table) ≡ readingOf (new table)
+
+-- What calls answer to two tables.
+pub record SameAnswers (t u : Table) : Type 0 where
+  pub plans : (limit : ℕ) → planOf t limit ≡ planOf u limit
+  pub quick : quickOf t ≡ quickOf u
+  pub ceiling : ceilingOf t ≡ ceilingOf u
+  pub output : outputOf t ≡ outputOf u
+  pub quick-output : quickOutputOf t ≡ quickOutputOf u
+
+-- Tables that read alike get the same answers, whatever their forms.
+abbrev pub AnsweredAlike : Type 1
+AnsweredAlike = (t u : Table) → readingOf t ≡ readingOf u → SameAnswers t u

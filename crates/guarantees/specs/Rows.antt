@@ -1,4 +1,4 @@
--- The paper's worked rows, and rows that each fix what no other does, as one list and one statement that goes down it.
+-- The paper's worked rows, and rows that each fix what no other does, as lists, one for each request, and one statement that goes down a list.
 use Prim.Native.Nat.{ℕ, _-_}
 use Prim.Native.String.{String}
 use mathlib.Core.Path.{_≡_}
@@ -7,11 +7,12 @@ use lib.ListN.{length, replicate}
 use Rattle.numbers.specs.Rows.{row, entry}
 use Rattle.refusal.specs.Conditions.{Gives}
 use Rattle.refusal.specs.declared.Outcome.the-variants.{Accepted}
-use Rattle.stored.specs.Form.{tableOf, everyAffinity}
-use Rattle.stored.specs.Tests.{readingOf}
+use Rattle.taskset.specs.Table.{readingOf}
 use Rattle.taskset.specs.declared.Fields.{Fields}
+use Rattle.stored.specs.Form.{tableOf, everyAffinity}
+use Rattle.stored.specs.Limits.{beside}
 use Rattle.setup.specs.Form.{setupOf}
-use Rattle.setup.specs.Tests.{setupReading}
+use Rattle.setup.specs.Limits.{new}
 use Rattle.transfer.specs.Calls.{writeAnswer, writeOutput, newAnswer, newOutput, oldAnswer, oldOutput}
 use Rattle.transfer.specs.declared.Transfer.{Transfer}
 use Rattle.planner.specs.Plan.{planOf, verdictOutcome}
@@ -72,29 +73,29 @@ pub data Row : Type 0 where
 
 -- what a row says where this is the board's charge, and these are a table's core bytes; a table in the new form has its own
 abbrev pub Holds : ℕ → (List ℕ → List ℕ) → Row → Type 0
-Holds charge bytes (frames table hyperperiod) = readingOf table charge (bytes table) .tasks .hyperperiod ≡ hyperperiod
+Holds charge bytes (frames table hyperperiod) = readingOf (beside table charge (bytes table)) .tasks .hyperperiod ≡ hyperperiod
 Holds charge bytes (plans table limit verdict cores rejected steps) =
-    planOf table charge (bytes table) limit ≡ record { verdict = verdict; placement = row 0 (length cores) (entry cores); rejected = rejected; steps = steps }
+    planOf (beside table charge (bytes table)) limit ≡ record { verdict = verdict; placement = row 0 (length cores) (entry cores); rejected = rejected; steps = steps }
 Holds charge bytes (quick table cores rejected) =
-    quickOf table charge (bytes table) ≡ record { outcome = Accepted; placement = row 0 (length cores) (entry cores); rejected = rejected }
-Holds charge bytes (ceilings table ceiling) = ceilingOf table charge (bytes table) ≡ record { outcome = Accepted; ceiling = ceiling }
-Holds charge bytes (refuses table limit number place) = Gives (verdictOutcome (planOf table charge (bytes table) limit .verdict)) number place
+    quickOf (beside table charge (bytes table)) ≡ record { outcome = Accepted; placement = row 0 (length cores) (entry cores); rejected = rejected }
+Holds charge bytes (ceilings table ceiling) = ceilingOf (beside table charge (bytes table)) ≡ record { outcome = Accepted; ceiling = ceiling }
+Holds charge bytes (refuses table limit number place) = Gives (verdictOutcome (planOf (beside table charge (bytes table)) limit .verdict)) number place
 Holds charge bytes (starts table placement core slots) =
-    startOf table charge (bytes table) placement core ≡ record { outcome = Accepted; core = record { slots = slots; charge = charge } }
-Holds charge bytes (refusesCore table placement core number place) = Gives (startOf table charge (bytes table) placement core .outcome) number place
+    startOf (beside table charge (bytes table)) placement core ≡ record { outcome = Accepted; core = record { slots = slots; charge = charge } }
+Holds charge bytes (refusesCore table placement core number place) = Gives (startOf (beside table charge (bytes table)) placement core .outcome) number place
 Holds charge bytes (ticks table placement core requests ran) =
-    runs (ticked (startOf table charge (bytes table) placement core .core .charge) (startOf table charge (bytes table) placement core .core .slots) requests) ≡ ran
+    runs (ticked (startOf (beside table charge (bytes table)) placement core .core .charge) (startOf (beside table charge (bytes table)) placement core .core .slots) requests) ≡ ran
 Holds charge bytes (tickOnce slots requests run late next) =
     tick charge slots requests ≡ record { refusal = 0; place = 0; charge = charge; slots = next; run = run; late = late }
 Holds charge bytes (refusesTick slots place) = tick charge slots [] ≡ record { refusal = 12; place = place; charge = charge; slots = slots; run = 0; late = 0 }
 Holds charge bytes (readsNew table fields hyperperiod) =
-    (setupReading table .outcome ≡ Accepted) × (setupReading table .tasks .fields ≡ fields) × (setupReading table .tasks .hyperperiod ≡ hyperperiod)
-Holds charge bytes (refusesNew table number place) = Gives (setupReading table .outcome) number place
+    (readingOf (new table) .outcome ≡ Accepted) × (readingOf (new table) .tasks .fields ≡ fields) × (readingOf (new table) .tasks .hyperperiod ≡ hyperperiod)
+Holds charge bytes (refusesNew table number place) = Gives (readingOf (new table) .outcome) number place
 Holds charge bytes (stores call out size after) = (answerTo call (length out) ≡ record { outcome = Accepted; length = size }) × (outAfter call out ≡ after)
 Holds charge bytes (refusesStore call out number place) =
     Gives (answerTo call (length out) .outcome) number place × (answerTo call (length out) .length ≡ 0) × (outAfter call out ≡ out)
-Holds charge bytes (prints table output) = outputOf table ≡ ascii output
-Holds charge bytes (printsQuick table output) = quickOutputOf table ≡ ascii output
+Holds charge bytes (prints table output) = outputOf (new table) ≡ ascii output
+Holds charge bytes (printsQuick table output) = quickOutputOf (new table) ≡ ascii output
 Holds charge bytes (charged own row) = Holds own bytes row
 Holds charge bytes (tied own row) = Holds charge (λ table. own) row
 
@@ -228,7 +229,7 @@ setups =
     ∷ refusesNew (0 ∷ 1 ∷ 5 ∷ 10 ∷ []) 3 0
     ∷ refusesNew (0 ∷ 1 ∷ 4 ∷ 10 ∷ []) 4 0
     ∷ refusesNew (setupOf 1 4 (10 ∷ 10 ∷ []) (6 ∷ 7 ∷ []) (1 ∷ 0 ∷ [])) 14 2
-    ∷ moves
+    ∷ []
 
 -- Tasks tied to cores. Two full tasks that want each other's core: the rule of the empty core alone would lose the plan. Three full tasks, of which
 -- the placed ones judge twins too: 7 steps. A core that only the heaviest and a light task may use, which is then left out. Two full tasks of which
@@ -259,7 +260,7 @@ ties =
     ∷ tied (3 ∷ 1 ∷ 3 ∷ []) (refusesCore (loose 1 3 2) (1 ∷ 2 ∷ 2 ∷ []) 1 16 2)
     ∷ tied (3 ∷ 1 ∷ 2 ∷ []) (refusesCore (loose 1 3 2) (1 ∷ 0 ∷ 1 ∷ []) 7 16 3)
     ∷ tied (3 ∷ 1 ∷ 2 ∷ []) (starts (loose 1 3 2) (2 ∷ 0 ∷ 2 ∷ []) 2 (front (slot 10 1 0 0 ∷ emptySlot ∷ slot 10 2 0 0 ∷ [])))
-    ∷ setups
+    ∷ []
 
 -- Switch charges. Row a's table, which is full, is short with a charge, and its core is refused. A charge of 1 reorders two tasks, in the exact plan
 -- and the quick one. A charge of 9 fills a core alone, and an empty core's record carries it. A task of period 5 and time 2 asks for nothing, for one
@@ -288,7 +289,7 @@ charges =
     ∷ charged 1 (refuses (tableOf 1 (1000 ∷ 1001 ∷ []) (1 ∷ 1001 ∷ [])) 1000000 14 2)
     ∷ charged 10 (refusesTick (front (slot 0 1 0 0 ∷ [])) 0)
     ∷ charged 9 (refusesTick (front (slot 12 3 0 12 ∷ slot 12 4 0 0 ∷ [])) 2)
-    ∷ ties
+    ∷ []
 
 -- Empty cores. Five tasks of which no two fit together, on four cores: 5 steps, where 65 are made if each empty core is tried. Seven
 -- tasks on three cores: 24 steps (110), of which the 20th stores a better placement; then one step less, and the steps that are enough.
@@ -305,7 +306,7 @@ emptyCores =
     ∷ ceilings listing 14
     ∷ ceilings rowD 242
     ∷ ceilings (tableOf 4 (replicate 16 10) (replicate 16 1)) 36621093752
-    ∷ charges
+    ∷ []
 
 -- Quick plans. Row d's table, where first fit places all; six tasks that fill two cores, where first fit leaves out the last and the exact
 -- plan nothing; two that fill a core exactly; the listing, where first fit leaves out more than the exact plan; the request's order, by which
@@ -322,7 +323,7 @@ quicks =
     ∷ printsQuick crowded "table 2 1 10\n1 5 2 0 1 1\n2 10 7 1 1 1\nquick 4\n"
     ∷ prints crowded "table 2 1 10\n1 5 2 0 1 1\n2 10 7 1 1 1\nshort 4 2\n"
     ∷ printsQuick (setupOf 1 0 (1000 ∷ 1001 ∷ []) (1 ∷ 1 ∷ []) (1 ∷ 1 ∷ [])) "refused 7 2\n"
-    ∷ emptyCores
+    ∷ []
 
 -- Of two tasks of equal weight the lower number is placed.
 -- Two tasks that no core holds together: display and axis loop of equal weight, where the axis loop's shorter period gives it the lower core;
@@ -351,7 +352,7 @@ more =
     ∷ prints [] "refused 1 0\n"
     ∷ tickOnce (front (slot 8 1 3 0 ∷ slot 10 3 0 2 ∷ slot 5 2 0 1 ∷ [])) (9 ∷ 1 ∷ 9 ∷ replicate 13 0) 3 2
     (front (slot 8 1 2 0 ∷ slot 10 3 9 1 ∷ slot 5 2 4 1 ∷ []))
-    ∷ quicks
+    ∷ []
 
 -- rows a to i and k; where the paper gives no limit it is 1,000,000
 unfoldable pub rows : List Row
@@ -367,4 +368,15 @@ rows =
     ∷ ticks rowC (1 ∷ 1 ∷ 1 ∷ []) 1 (replicate 6 full) (1 ∷ 2 ∷ 1 ∷ 2 ∷ 1 ∷ 3 ∷ [])
     ∷ ticks rowC (1 ∷ 1 ∷ 1 ∷ []) 1 (full ∷ full ∷ firstSilent ∷ full ∷ full ∷ full ∷ []) (1 ∷ 2 ∷ 3 ∷ 2 ∷ 1 ∷ 0 ∷ [])
     ∷ refuses (tableOf 1 (1000 ∷ 1001 ∷ []) (1 ∷ 1 ∷ [])) 1000000 7 2
-    ∷ more
+    ∷ []
+
+-- Every row of every list.
+pub record WorkedRows : Type 0 where
+  pub base : AllHold rows
+  pub more-of-it : AllHold more
+  pub quick-plans : AllHold quicks
+  pub empty-cores : AllHold emptyCores
+  pub switch-charges : AllHold charges
+  pub core-bytes : AllHold ties
+  pub new-form : AllHold setups
+  pub moved-tables : AllHold moves

@@ -7,31 +7,34 @@ use lib.ListN.{length, take, drop}
 use lib.Seq.{length-take-le, take-append-seam}
 use native.Mathlib.Omega.{arith}
 use borrow.Author.Tests.{le-ltb}
-use Rattle.refusal.specs.Tests.{_then_, refuseIf}
-use Rattle.refusal.specs.Conditions.{Condition}
+use Rattle.refusal.specs.Tests.{_then_, refuseIf, roomTest, byOutcome}
 use Rattle.refusal.specs.declared.Outcome.{Outcome}
 use Rattle.refusal.specs.declared.Outcome.the-variants.{Accepted, Refused}
 use Rattle.refusal.proofs.TestLaws.{outcome-cases, then-first, then-refused}
-use Rattle.refusal.proofs.ConditionLaws.{Tested, decides, accepts, gives-refused}
+use Rattle.refusal.proofs.ConditionLaws.{decides, gives-refused}
 use Rattle.text.specs.Shown.{shown, Appended}
 use Rattle.text.specs.declared.Text.{Text}
 use Rattle.text.proofs.ClipLaws.{append-whole}
-use Rattle.stored.specs.Form.{everyAffinity, fieldsAlone, tableBytes}
-use Rattle.stored.specs.Limits.{Valid}
-use Rattle.stored.specs.Tests.{tableOutcome}
+use Rattle.refusal.specs.declared.Cause.the-variants.{Buffer}
+use Rattle.taskset.specs.Table.{Table, Sound}
+use Rattle.taskset.proofs.TableLaws.{table-accepts}
+use Rattle.stored.specs.Form.{fieldsAlone, tableBytes}
+use Rattle.stored.specs.Limits.{alone}
 use Rattle.stored.proofs.BackLaws.{table-long}
-use Rattle.stored.proofs.TableLaws.{table-tested-alone}
+use Rattle.stored.proofs.TableLaws.{alone-sound}
 use Rattle.setup.specs.Form.{setupFields, setupBytes}
+use Rattle.setup.specs.Limits.{new}
 use Rattle.setup.proofs.BackLaws.{setup-long}
-use Rattle.transfer.specs.Lent.{roomTest, answerBy, outputBy, answerOf, outputOf}
+use Rattle.transfer.specs.Lent.{answerBy, outputBy, answerOf, outputOf}
 use Rattle.transfer.specs.Calls.{newAnswer, newOutput, backOutcome, oldAnswer, oldOutput}
+use Rattle.transfer.specs.Limits.{returned}
 use Rattle.transfer.specs.Promise.{storedIn}
 use Rattle.transfer.specs.declared.Transfer.{Transfer}
 use Rattle.transfer.proofs.StoreLaws.{answer-outcome}
-use Rattle.transfer.proofs.CallLaws.{back-tested}
+use Rattle.transfer.proofs.CallLaws.{returned-sound}
 use Rattle.listing.specs.Printed.{printed}
 use Rattle.movereport.specs.Output.{Shows, movedBytes, MoveOutput, NewOutput, OldOutput}
-use Rattle.movereport.specs.Reported.{MoveReported, NewReported, Returnable, OldReported}
+use Rattle.movereport.specs.Reported.{MoveReported, NewReported, OldReported}
 use Rattle.movereport.specs.declared.Moved.{Moved}
 
 -- ---- the texts
@@ -45,23 +48,25 @@ table-shown out {n} h g z p = append-whole z p (omega (arith, length-take-le n o
 -- ---- the answer and the output, by the tests before number 8
 
 -- the table in front of the output
-stored-by : (o : Outcome) (bytes out : List ℕ) → storedIn (answerBy o (length bytes)) (outputBy o bytes out) ≡ movedBytes o bytes
-unfolding answerBy outputBy movedBytes
+stored-by : (o : Outcome) (bytes out : List ℕ) → storedIn (answerBy o (length bytes)) (outputBy out o bytes) ≡ movedBytes o bytes
+unfolding answerBy outputBy movedBytes byOutcome
 stored-by Accepted bytes out = take-append-seam bytes (drop (length bytes) out)
 stored-by (Refused cause) bytes out = refl
 
 length-by : (o : Outcome) (size room : ℕ) → (o ≡ Accepted → size ≤ room) → answerBy o size .length ≤ room
-unfolding answerBy
+unfolding answerBy byOutcome
 length-by Accepted size room h = h refl
 length-by (Refused cause) size room h = omega arith
 
-module _ {Movable : Type 0} {conditions : List Condition} (tests : Outcome) (bytes out : List ℕ) (t : Tested Movable conditions tests)
-    (fits : Movable → length bytes ≤ length out) where
+module _ {t : Table} (sound : Sound t) (bytes out : List ℕ) (fits : t .Valid → length bytes ≤ length out) where
+  abbrev tests : Outcome
+  tests = t .outcome
+
   -- number 8 never occurs
   has-room : tests ≡ Accepted → length bytes ≤ length out
-  has-room q = fits (accepts (decides t) .0 q)
+  has-room q = fits (table-accepts sound .0 q)
 
-  room : tests then roomTest (length bytes) (length out) ≡ tests
+  room : tests then roomTest Buffer (length bytes) (length out) ≡ tests
   unfolding refuseIf
   room =
       ⊎-elim
@@ -70,27 +75,27 @@ module _ {Movable : Type 0} {conditions : List Condition} (tests : Outcome) (byt
       (outcome-cases tests)
 
   -- in the table's terms
-  module _ {w : Moved} (s : MoveOutput tests bytes w) where
-    moved-shown : Movable → Shows bytes [] w
-    unfolding movedBytes printed
-    moved-shown v = let q = accepts (decides t) .1 v in record { table = s .table ∙ rw q; refusal = s .refusal ∙ rw q }
+  module _ {w : Moved} (s : MoveOutput t bytes w) where
+    moved-shown : t .Valid → Shows bytes [] w
+    unfolding movedBytes printed byOutcome
+    moved-shown v = let q = table-accepts sound .1 v in record { table = s .table ∙ rw q; refusal = s .refusal ∙ rw q }
 
-    in-terms : 1 ≤ length bytes → MoveReported Movable conditions bytes w
-    unfolding movedBytes printed
+    in-terms : 1 ≤ length bytes → MoveReported t bytes w
+    unfolding movedBytes printed byOutcome
     in-terms some = record {
       moved = moved-shown;
       some = λ v. rw (moved-shown v .table) some;
       refused = λ number place h f.
-          let g = gives-refused tests number place h (decides t .refused number place h .1 f) in
+          let g = gives-refused tests number place h (decides (sound .tested) .refused number place h .1 f) in
           record { table = s .table ∙ rw (g .1); refusal = s .refusal ∙ rw (g .1, g .2, g .3) };
     }
 
-  module _ {r : Transfer} {after : List ℕ} (e : r ≡ answerOf tests bytes (length out)) (g : after ≡ outputOf tests bytes out) where
+  module _ {r : Transfer} {after : List ℕ} (e : r ≡ answerOf Buffer tests bytes (length out)) (g : after ≡ outputOf Buffer tests bytes out) where
     answer-is : r ≡ answerBy tests (length bytes)
     unfolding answerOf
     answer-is = e ∙ rw room
 
-    after-is : after ≡ outputBy tests bytes out
+    after-is : after ≡ outputBy out tests bytes
     unfolding outputOf
     after-is = g ∙ rw room
 
@@ -99,38 +104,39 @@ module _ {Movable : Type 0} {conditions : List Condition} (tests : Outcome) (byt
     length-fits same h =
         let l : r .length ≤ length out = rw answer-is (length-by tests (length bytes) (length out) has-room) in (omega arith, omega arith)
 
-    output-made : {w : Moved} → Shows (storedIn r after) (printed (r .outcome) []) w → MoveOutput tests bytes w
+    output-made : {w : Moved} → Shows (storedIn r after) (printed (r .outcome) []) w → MoveOutput t bytes w
     output-made s = record {
       table = s .table ∙ rw (answer-is, after-is) (stored-by tests bytes out);
-      refusal = s .refusal ∙ rw (e, answer-outcome tests bytes (length out), room);
+      refusal = s .refusal ∙ rw (e, answer-outcome Buffer tests bytes (length out), room);
     }
 
-    pub both : 1 ≤ length bytes → {w : Moved} → Shows (storedIn r after) (printed (r .outcome) []) w → MoveOutput tests bytes w × MoveReported Movable conditions bytes w
+    pub both : 1 ≤ length bytes → {w : Moved} → Shows (storedIn r after) (printed (r .outcome) []) w → MoveOutput t bytes w × MoveReported t bytes w
     both some s = (output-made s, in-terms (output-made s) some)
 
 -- ---- both clauses of each move
 
 module _ (s out : List ℕ) {r : Transfer} {after : List ℕ} (e : r ≡ newAnswer s (length out)) (g : after ≡ newOutput s out) (room : 148 ≤ length out) where
-  new-fits : Valid s 0 (everyAffinity s) → length (setupBytes (fieldsAlone s)) ≤ length out
+  new-fits : alone s .Valid → length (setupBytes (fieldsAlone s)) ≤ length out
+  unfolding alone
   new-fits v = omega (arith, setup-long (fieldsAlone s) (v .fields), v .fields .sizes .tasks .1)
 
   pub new-length : length after ≡ length out → length out ≤ 2560 → (r .length ≤ length after) × (r .length ≤ 2560)
-  unfolding newAnswer newOutput
-  new-length same h =
-      length-fits (tableOutcome s 0 (everyAffinity s)) (setupBytes (fieldsAlone s)) out (table-tested-alone s) new-fits e g same h
+  unfolding newAnswer newOutput alone
+  new-length same h = length-fits (alone-sound s) (setupBytes (fieldsAlone s)) out new-fits e g same h
 
   pub new-both : {w : Moved} → Shows (storedIn r after) (printed (r .outcome) []) w → NewOutput s w × NewReported s w
-  unfolding newAnswer newOutput setupBytes
-  new-both x = both (tableOutcome s 0 (everyAffinity s)) (setupBytes (fieldsAlone s)) out (table-tested-alone s) new-fits e g (omega arith) x
+  unfolding newAnswer newOutput setupBytes alone
+  new-both x = both (alone-sound s) (setupBytes (fieldsAlone s)) out new-fits e g (omega arith) x
 
 module _ (s out : List ℕ) {r : Transfer} {after : List ℕ} (e : r ≡ oldAnswer s (length out)) (g : after ≡ oldOutput s out) (room : 130 ≤ length out) where
-  old-fits : Returnable s → length (tableBytes (setupFields s)) ≤ length out
+  old-fits : returned s .Valid → length (tableBytes (setupFields s)) ≤ length out
+  unfolding returned new
   old-fits v = omega (arith, table-long (setupFields s) (v .0 .fields), v .0 .fields .sizes .tasks .1)
 
   pub old-length : length after ≡ length out → length out ≤ 2560 → (r .length ≤ length after) × (r .length ≤ 2560)
-  unfolding oldAnswer oldOutput
-  old-length same h = length-fits (backOutcome s) (tableBytes (setupFields s)) out (back-tested s) old-fits e g same h
+  unfolding oldAnswer oldOutput backOutcome returned new
+  old-length same h = length-fits (returned-sound s) (tableBytes (setupFields s)) out old-fits e g same h
 
   pub old-both : {w : Moved} → Shows (storedIn r after) (printed (r .outcome) []) w → OldOutput s w × OldReported s w
-  unfolding oldAnswer oldOutput tableBytes
-  old-both x = both (backOutcome s) (tableBytes (setupFields s)) out (back-tested s) old-fits e g (omega arith) x
+  unfolding oldAnswer oldOutput tableBytes backOutcome returned new
+  old-both x = both (returned-sound s) (tableBytes (setupFields s)) out old-fits e g (omega arith) x

@@ -4,11 +4,12 @@ use mathlib.Core.Path.{_≡_}
 use mathlib.Core.List.{List, []}
 use Rattle.text.specs.Shown.{shown}
 use Rattle.refusal.specs.declared.Outcome.{Outcome}
-use Rattle.refusal.specs.declared.Outcome.the-variants.{Accepted, Refused}
-use Rattle.stored.specs.Form.{everyAffinity, fieldsAlone, tableBytes}
-use Rattle.stored.specs.Tests.{tableOutcome}
+use Rattle.refusal.specs.Tests.{byOutcome}
+use Rattle.taskset.specs.Table.{Table}
+use Rattle.stored.specs.Form.{fieldsAlone, tableBytes}
+use Rattle.stored.specs.Limits.{alone}
 use Rattle.setup.specs.Form.{setupFields, setupBytes}
-use Rattle.transfer.specs.Calls.{backOutcome}
+use Rattle.transfer.specs.Limits.{returned}
 use Rattle.listing.specs.Printed.{printed}
 use Rattle.movereport.specs.declared.Moved.{Moved}
 
@@ -19,17 +20,16 @@ pub record Shows (bytes line : List ℕ) (r : Moved) : Type 0 where
 
 -- the bytes of the moved table, or none beside a refusal
 unfoldable pub movedBytes : Outcome → List ℕ → List ℕ
-movedBytes (Refused cause) bytes = []
-movedBytes Accepted bytes = bytes
+movedBytes = byOutcome (λ cause. []) (λ bytes. bytes)
 
--- The output of a move by the outcome of the table's tests and its bytes in the other form: these bytes, or the line of the refusal.
-abbrev pub MoveOutput : Outcome → List ℕ → Moved → Type 0
-MoveOutput tests bytes r = Shows (movedBytes tests bytes) (printed tests []) r
+-- The output of a move of this table, whose bytes in the other form are these: these bytes, or the line of the refusal.
+abbrev pub MoveOutput : Table → List ℕ → Moved → Type 0
+MoveOutput t bytes r = Shows (movedBytes (t .outcome) bytes) (printed (t .outcome) []) r
 
 -- of `tonew`, for the bytes of a table in the old form
 abbrev pub NewOutput : List ℕ → Moved → Type 0
-NewOutput s r = MoveOutput (tableOutcome s 0 (everyAffinity s)) (setupBytes (fieldsAlone s)) r
+NewOutput s r = MoveOutput (alone s) (setupBytes (fieldsAlone s)) r
 
 -- of `toold`, for the bytes of a table in the new form
 abbrev pub OldOutput : List ℕ → Moved → Type 0
-OldOutput s r = MoveOutput (backOutcome s) (tableBytes (setupFields s)) r
+OldOutput s r = MoveOutput (returned s) (tableBytes (setupFields s)) r

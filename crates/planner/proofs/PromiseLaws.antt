@@ -4,46 +4,34 @@ use mathlib.Core.Path.{_≡_, refl, sym, _∙_, ap}
 use mathlib.Core.Bool.{Bool, true, false, true≢false}
 use mathlib.Core.List.{List}
 use mathlib.Core.Logic.{_⊎_, inl, inr, _↔_, _≢_}
-use lib.ListN.{length, getD, take, replicate}
+use lib.ListN.{length, take, replicate}
 use native.Mathlib.Omega.{arith}
 use Rattle.numbers.specs.Reorder.{scatter}
-use Rattle.numbers.specs.Rows.{tab, row, entry}
-use Rattle.numbers.specs.Sorting.{Permutation}
-use Rattle.numbers.proofs.RowLaws.{row-beyond, length-tab, getD-tab, getD-row, take-row}
-use Rattle.numbers.proofs.SortingLaws.{permutation-below}
 use Rattle.refusal.specs.Causes.{numberIn}
-use Rattle.refusal.specs.Conditions.{Decides}
-use Rattle.refusal.proofs.ConditionLaws.{decides, accepts}
-use Rattle.refusal.specs.declared.Outcome.{Outcome}
+use Rattle.refusal.proofs.TestLaws.{by-says}
+use Rattle.refusal.proofs.ConditionLaws.{decides}
+use Rattle.refusal.specs.declared.Cause.{Cause}
 use Rattle.refusal.specs.declared.Outcome.the-variants as outcome
-use Rattle.taskset.specs.Fields.{affinityAt}
-use Rattle.taskset.specs.Demands.{demandOf}
 use Rattle.taskset.specs.Limits.{Within}
-use Rattle.taskset.specs.Reading.{taskSetOf}
-use Rattle.taskset.proofs.DemandLaws.{hyperperiod-is, demand-exact, demand-range}
-use Rattle.stored.specs.Form.{fieldsOf}
-use Rattle.stored.specs.Tests.{tableOutcome}
-use Rattle.stored.specs.Limits.{Valid, conditions}
-use Rattle.stored.proofs.TableLaws.{table-tested}
-use Rattle.setup.specs.Form.{setupFields}
-use Rattle.setup.specs.Tests.{setupOutcome}
-use Rattle.setup.specs.Limits.{ValidSetup}
-use Rattle.setup.proofs.SetupLaws.{setup-tested}
-use Rattle.planning.proofs.PlainOrder.{in-order}
-use Rattle.planning.proofs.OrderLaws.{sorted-is}
+use Rattle.taskset.specs.Table.{Table, readingOf, Decided, Sound}
 use Rattle.taskset.specs.declared.Fields.{Fields}
-use Rattle.allocation.specs.Placement.{Feasible, Full, rejected}
+use Rattle.taskset.specs.declared.Reading.{Reading}
+use Rattle.taskset.proofs.TableLaws.{answer-valid, answer-both}
+use Rattle.planning.specs.Problem.{tableProblem, orderOf}
+use Rattle.plans.specs.Safe.{choicesOf}
+use Rattle.plans.proofs.SafeLaws.{demands-long, stated-order, order-permutation, positive, byte-at, row-choices, row-safe}
+use Rattle.allocation.specs.Placement.{Feasible, Full}
 use Rattle.allocation.specs.Walk.{WalkAnswer, LastLeaf, NoLeaf}
 use Rattle.allocation.specs.TableOrder.{inPlanningOrder, tableAnswer}
 use Rattle.allocation.specs.Guarantee.{Guarantee}
 use Rattle.allocation.proofs.Reorder.{gathered-positive, twins-gather, twins-back}
 use Rattle.allocation.proofs.EntryRule.{entry-rule}
 use Rattle.allocation.proofs.Guarantee.{guaranteed}
-use Rattle.planner.specs.Problem.{tableProblem, orderOf}
-use Rattle.planner.specs.Plan.{verdictOf, allocationOf, planFor, refusedPlan, planBy, planOf, setupPlan, verdictOutcome}
-use Rattle.planner.specs.Promise.{walkOf, choicesOf, ExactDemands, Safe, StatedOrder, Promise, WalkRule, RefusedPlan, Plans}
+use Rattle.planner.specs.Plan.{verdictOf, allocationOf, planFor, refusedPlan, planBy, planOf, verdictOutcome}
+use Rattle.planner.specs.Promise.{walkOf, Promise, WalkRule, RefusedPlan, Plans}
 use Rattle.planner.specs.declared.Allocation.{Allocation}
 use Rattle.planner.specs.declared.Verdict.the-variants.{All, Short, Spent}
+use Rattle.planner.proofs.PlanLaws.{plan-table}
 
 -- ---- what each verdict says
 
@@ -72,73 +60,15 @@ short-is false (suc x) h = (λ e. omega arith, λ e. refl)
 -- ---- demand 2
 
 module _ (f : Fields) (w : Within f) where
-  few : f .n ≤ 16
-  few = w .sizes .tasks .1
-
-  pub demands-long : length (tableProblem f .demands) ≡ f .n
-  unfolding tableProblem
-  demands-long = length-tab 0 (f .n) (demandOf f)
-
-  pub stated-order : StatedOrder f
-  unfolding orderOf taskSetOf tableProblem
-  stated-order = (
-    λ i j h g.
-        rw (same (entry (orderOf f) i) (below i (omega arith)), same (entry (orderOf f) j) (below j g))
-        (in-order (taskSetOf f) (orderOf f) (sorted-is (taskSetOf f) .sorted) i j h g),
-    sorted-is (taskSetOf f) .each,
-  )
-    where
-      below : (k : ℕ) → k < length (orderOf f) → entry (orderOf f) k < f .n
-      below = permutation-below (f .n) (orderOf f) (sorted-is (taskSetOf f) .each)
-
-      same : (k : ℕ) → k < f .n → getD (tab (f .n) (demandOf f)) k 0 ≡ getD (row 0 (f .n) (demandOf f)) k 0
-      same k h = getD-tab 0 (f .n) (demandOf f) k h ∙ sym (getD-row 0 (f .n) (demandOf f) k h few)
-
-  pub order-permutation : Permutation (length (tableProblem f .demands)) (orderOf f)
-  order-permutation = rw demands-long (stated-order .1)
-
-  exact-demands : ExactDemands f
-  unfolding tableProblem
-  exact-demands = record {
-    hyperperiod = hyperperiod-is w;
-    demand = λ k h. rw (getD-tab 0 (f .n) (demandOf f) k h) (demand-exact w h);
-    range = λ k h. rw (getD-tab 0 (f .n) (demandOf f) k h) (demand-range w h);
-  }
-
-  positive : (k : ℕ) → k < length (tableProblem f .demands) → 1 ≤ getD (tableProblem f .demands) k 0
-  positive k h = exact-demands .range k (rw demands-long at h) .0
-
-  -- a task's core byte
-  pub byte-at : (k : ℕ) → k < f .n → entry (tableProblem f .affinity) k ≡ affinityAt f k
-  unfolding tableProblem
-  byte-at k h = getD-tab 0 (f .n) (affinityAt f) k h
-
-  walk-rule : WalkRule f
+  pub walk-rule : WalkRule f
   walk-rule = record {
     enters = entry-rule (inPlanningOrder (tableProblem f) (orderOf f))
-        (gathered-positive (tableProblem f) (orderOf f) order-permutation positive);
+        (gathered-positive (tableProblem f) (orderOf f) (order-permutation f w) (positive f w));
     twins = λ c d. (
-      λ t k h. rw (byte-at k h) at (twins-back (tableProblem f) (orderOf f) order-permutation c d t k (rw demands-long h)),
-      λ t. twins-gather (tableProblem f) (orderOf f) order-permutation c d (λ k h. rw (byte-at k (rw demands-long at h)) (t k (rw demands-long at h))),
+      λ t k h. rw ((byte-at f w) k h) at (twins-back (tableProblem f) (orderOf f) (order-permutation f w) c d t k (rw (demands-long f w) h)),
+      λ t. twins-gather (tableProblem f) (orderOf f) (order-permutation f w) c d (λ k h. rw ((byte-at f w) k (rw (demands-long f w) at h)) (t k (rw (demands-long f w) at h))),
     );
   }
-
-  -- a feasible placement as a row of sixteen
-  module _ {p : List ℕ} (g : Feasible (tableProblem f) p) where
-    pub row-choices : choicesOf f (row 0 (f .n) (entry p)) ≡ p
-    row-choices = take-row (f .n) p (g .whole ∙ demands-long) few
-
-    pub row-safe : Safe f (row 0 (f .n) (entry p)) (rejected (tableProblem f) p)
-    unfolding tableProblem
-    row-safe = record {
-      exact = exact-demands;
-      loads = λ core h l. rw row-choices (g .fits core h l);
-      feasible = rw row-choices g;
-      permitted = λ k h. rw (getD-row 0 (f .n) (entry p) k h few) (λ i. rw (byte-at k h) at (g .permitted k (omega (arith, g .whole, demands-long)) i));
-      bytes = w .affinities;
-      beyond = λ k h. row-beyond 0 (f .n) (entry p) k h;
-      rejects = rw row-choices;
-    }
 
   module _ (limit : ℕ) where
     a : WalkAnswer
@@ -146,11 +76,11 @@ module _ (f : Fields) (w : Within f) where
 
     keeps : Guarantee (tableProblem f) (orderOf f) limit a
     unfolding a
-    keeps = guaranteed (tableProblem f) (orderOf f) order-permutation positive limit
+    keeps = guaranteed (tableProblem f) (orderOf f) (order-permutation f w) (positive f w) limit
 
     choices-are : choicesOf f (planFor f limit .placement) ≡ a .placement
     unfolding planFor allocationOf a
-    choices-are = row-choices (keeps .feasible)
+    choices-are = (row-choices f w) (keeps .feasible)
 
     verdict-is : planFor f limit .verdict ≡ verdictOf (a .spent) (a .rejected)
     unfolding planFor allocationOf a
@@ -190,14 +120,14 @@ module _ (f : Fields) (w : Within f) where
             → ((p : List ℕ) × LastLeaf (take limit (walkOf f)) p × (choicesOf f (planFor f limit .placement) ≡ scatter (orderOf f) p))
             ⊎ (NoLeaf (take limit (walkOf f)) × (choicesOf f (planFor f limit .placement) ≡ replicate (f .n) 0))
         go (inl x) = inl (x .0, x .1, choices-are ∙ x .2)
-        go (inr x) = inr (x .0, choices-are ∙ x .1 ∙ ap (λ (k : ℕ). replicate k 0) demands-long)
+        go (inr x) = inr (x .0, choices-are ∙ x .1 ∙ ap (λ (k : ℕ). replicate k 0) (demands-long f w))
 
     pub promised : Promise f limit (planFor f limit)
     unfolding planFor allocationOf a
     promised = record {
-      safe = rw (keeps .rejects) (row-safe (keeps .feasible));
+      safe = rw (keeps .rejects) ((row-safe f w) (keeps .feasible));
       best = λ h. rw choices-are (keeps .best (unspent h));
-      ordered = stated-order;
+      ordered = (stated-order f w);
       all = λ h. all-exactly (unspent h);
       short = λ h. short-exactly (unspent h);
       spent = spent-exactly;
@@ -217,42 +147,37 @@ outcome-planned true x = refl
 outcome-planned false zero = refl
 outcome-planned false (suc x) = refl
 
-answer-outcome : (o : Outcome) (f : Fields) (limit : ℕ) → verdictOutcome (planBy o f limit .verdict) ≡ o
-unfolding planBy refusedPlan verdictOutcome planFor allocationOf
-answer-outcome outcome.Accepted f limit = outcome-planned _ _
-answer-outcome (outcome.Refused c) f limit = refl
+pub planned-says : (f : Fields) (limit : ℕ) → verdictOutcome (planFor f limit .verdict) ≡ outcome.Accepted
+unfolding planFor allocationOf
+planned-says f limit = outcome-planned _ _
 
-pub plan-outcome : (s : List ℕ) (charge : ℕ) (affinity : List ℕ) (limit : ℕ) → verdictOutcome (planOf s charge affinity limit .verdict) ≡ tableOutcome s charge affinity
-unfolding planOf
-plan-outcome s charge affinity limit = answer-outcome (tableOutcome s charge affinity) (fieldsOf s charge affinity) limit
+refused-says : (c : Cause) → verdictOutcome (refusedPlan c .verdict) ≡ outcome.Refused c
+unfolding refusedPlan verdictOutcome
+refused-says c = refl
 
--- a refused plan is zeros
-by-refused : (o : Outcome) (f : Fields) (limit : ℕ) → numberIn o ≢ 0 → RefusedPlan (planBy o f limit)
-unfolding planBy refusedPlan
-by-refused outcome.Accepted f limit n = absurd (n refl)
-by-refused (outcome.Refused c) f limit n = record { placement = refl; rejected = refl; steps = refl }
+refused-zeros : (c : Cause) → RefusedPlan (refusedPlan c)
+unfolding refusedPlan
+refused-zeros c = record { placement = refl; rejected = refl; steps = refl }
+
+pub plan-outcome : (t : Table) (limit : ℕ) → verdictOutcome (planOf t limit .verdict) ≡ t .outcome
+unfolding planOf planBy
+plan-outcome t limit = by-says refusedPlan _ (λ a. verdictOutcome (a .verdict)) refused-says (λ f. planned-says f limit) (t .outcome) (t .fields)
 
 -- what is promised of an answer that equals the definition
-module _ (s : List ℕ) (charge : ℕ) (affinity : List ℕ) (limit : ℕ) {r : Allocation} (e : r ≡ planOf s charge affinity limit) where
-  pub plan-decides : Decides (Valid s charge affinity) (conditions s charge affinity) (verdictOutcome (r .verdict))
-  plan-decides = rw (e, plan-outcome s charge affinity limit) (decides (table-tested s charge affinity))
+module _ {t : Table} (s : Sound t) (limit : ℕ) {r : Allocation} (e : r ≡ planOf t limit) where
+  pub plan-decided : Decided t (verdictOutcome (r .verdict))
+  plan-decided = rw (e, plan-outcome t limit) (decides (s .tested))
 
-  pub plan-promised : Plans s charge affinity limit r
+  pub plan-promised : Plans t limit r
   unfolding planOf planBy
   plan-promised = record {
-    promise = λ v.
-        let o : tableOutcome s charge affinity ≡ outcome.Accepted = accepts (decides (table-tested s charge affinity)) .1 v in
-        rw (e, o) (promised (fieldsOf s charge affinity) (v .fields) limit);
-    walks = λ v. walk-rule (fieldsOf s charge affinity) (v .fields);
-    refused = λ n. rw e (by-refused (tableOutcome s charge affinity) (fieldsOf s charge affinity) limit (rw (e, plan-outcome s charge affinity limit) at n));
+    promise = λ v. rw (e, answer-valid s refusedPlan (λ f. planFor f limit) v) (promised (t .fields) (s .within v) limit);
+    walks = λ v. walk-rule (t .fields) (s .within v);
+    refused = rw e (answer-both s refusedPlan (λ f. planFor f limit) (λ a. numberIn (verdictOutcome (a .verdict)) ≢ 0 → RefusedPlan a)
+        (λ c n. refused-zeros c) (λ w n. absurd (n (ap numberIn (planned-says (t .fields) limit)))));
   }
 
--- of a table in the new form
-module _ (s : List ℕ) (limit : ℕ) where
-  pub setup-outcome : verdictOutcome (setupPlan s limit .verdict) ≡ setupOutcome s
-  unfolding setupPlan
-  setup-outcome = answer-outcome (setupOutcome s) (setupFields s) limit
-
-  pub setup-promised : ValidSetup s → Promise (setupFields s) limit (setupPlan s limit)
-  unfolding setupPlan planBy
-  setup-promised v = rw (accepts (decides (setup-tested s)) .1 v) (promised (setupFields s) (v .fields) limit)
+-- all that is said of the plan of a table's reading
+pub plan-all : {t : Table} → Sound t → {g : Reading} → g ≡ readingOf t → (limit : ℕ) {r : Allocation} → r ≡ planBy limit (g .outcome) (g .tasks .fields)
+    → (r ≡ planOf t limit) × (Decided t (verdictOutcome (r .verdict)) × Plans t limit r)
+plan-all {t} s e limit w = let a = plan-table t e limit w in (a, (plan-decided s limit a, plan-promised s limit a))

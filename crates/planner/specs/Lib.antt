@@ -1,3 +1,2 @@
-pub mod Problem
 pub mod Plan
 pub mod Promise

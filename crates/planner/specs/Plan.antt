@@ -1,20 +1,17 @@
 -- The exact planner's answer.
 use Prim.Native.Nat.{ℕ, zero, suc}
 use mathlib.Core.Bool.{Bool, true, false}
-use mathlib.Core.List.{List}
 use lib.ListN.{replicate}
 use Rattle.numbers.specs.Rows.{row, entry}
+use Rattle.refusal.specs.Tests.{byOutcome}
 use Rattle.refusal.specs.declared.Cause.{Cause}
 use Rattle.refusal.specs.declared.Outcome.{Outcome}
 use Rattle.refusal.specs.declared.Outcome.the-variants as outcome
 use Rattle.taskset.specs.declared.Fields.{Fields}
-use Rattle.stored.specs.Form.{fieldsOf}
-use Rattle.stored.specs.Tests.{tableOutcome}
-use Rattle.setup.specs.Form.{setupFields}
-use Rattle.setup.specs.Tests.{setupOutcome}
+use Rattle.taskset.specs.Table.{Table}
+use Rattle.planning.specs.Problem.{tableProblem, orderOf}
 use Rattle.allocation.specs.Walk.{WalkAnswer}
 use Rattle.allocation.specs.TableOrder.{tableAnswer}
-use Rattle.planner.specs.Problem.{tableProblem, orderOf}
 use Rattle.planner.specs.declared.Allocation.{Allocation}
 use Rattle.planner.specs.declared.Verdict.{Verdict}
 use Rattle.planner.specs.declared.Verdict.the-variants.{All, Short, Spent, Refused}
@@ -42,18 +39,13 @@ planFor f limit = allocationOf (f .n) (tableAnswer (tableProblem f) (orderOf f) 
 unfoldable pub refusedPlan : Cause → Allocation
 refusedPlan cause = record { verdict = Refused cause; placement = replicate 16 0; rejected = 0; steps = 0 }
 
--- the answer by the outcome of the table's tests
-unfoldable pub planBy : Outcome → Fields → ℕ → Allocation
-planBy (outcome.Refused cause) f limit = refusedPlan cause
-planBy outcome.Accepted f limit = planFor f limit
+-- the answer within a step limit by the outcome of a table's tests and by its fields
+unfoldable pub planBy : ℕ → Outcome → Fields → Allocation
+planBy limit = byOutcome refusedPlan (λ f. planFor f limit)
 
--- the answer for a table, the charge and the core bytes beside it, and a step limit
-unfoldable pub planOf : List ℕ → ℕ → List ℕ → ℕ → Allocation
-planOf s charge affinity limit = planBy (tableOutcome s charge affinity) (fieldsOf s charge affinity) limit
-
--- the answer for a table in the new form and a step limit
-unfoldable pub setupPlan : List ℕ → ℕ → Allocation
-setupPlan s limit = planBy (setupOutcome s) (setupFields s) limit
+-- the answer for a table and a step limit
+unfoldable pub planOf : Table → ℕ → Allocation
+planOf t limit = planBy limit (t .outcome) (t .fields)
 
 -- what a verdict says of the call: through it a verdict has the paper's number and place
 unfoldable pub verdictOutcome : Verdict → Outcome

@@ -1,27 +1,21 @@
 -- Demand 2, sentence by sentence, of the plan for fields within the limits, in the table's terms; and what a refused plan is.
-use Prim.Native.Nat.{ℕ, _+_, _*_, _≤_, _<_}
+use Prim.Native.Nat.{ℕ, _<_}
 use mathlib.Core.Path.{_≡_}
-use mathlib.Core.Bool.{true}
 use mathlib.Core.List.{List}
 use mathlib.Core.Logic.{_⊎_, _↔_, _≢_}
 use lib.ListN.{length, take, replicate}
-use Rattle.numbers.specs.Multiples.{IsLcm}
 use Rattle.numbers.specs.Reorder.{scatter}
-use Rattle.numbers.specs.Rows.{entry}
-use Rattle.numbers.specs.Sorting.{Permutation}
 use Rattle.refusal.specs.Causes.{numberIn}
-use Rattle.affinity.specs.Permitted.{permitted, CoreByte}
-use Rattle.taskset.specs.Fields.{periodAt, budgetAt, affinityAt}
-use Rattle.taskset.specs.Demands.{hyperperiodOf}
+use Rattle.affinity.specs.Permitted.{permitted}
+use Rattle.taskset.specs.Fields.{affinityAt}
 use Rattle.taskset.specs.declared.Fields.{Fields}
-use Rattle.planning.specs.Order.{InOrder}
-use Rattle.stored.specs.Form.{fieldsOf}
-use Rattle.stored.specs.Limits.{Valid}
-use Rattle.allocation.specs.Placement.{Feasible, Full, load, rejected}
+use Rattle.taskset.specs.Table.{Table}
+use Rattle.planning.specs.Problem.{tableProblem, orderOf}
+use Rattle.plans.specs.Safe.{choicesOf, Safe, StatedOrder}
+use Rattle.allocation.specs.Placement.{Feasible, Full}
 use Rattle.allocation.specs.Walk.{Step, trace, LastLeaf, NoLeaf}
 use Rattle.allocation.specs.EntryRule.{Twins, EntryRule}
 use Rattle.allocation.specs.TableOrder.{inPlanningOrder, BestPlan}
-use Rattle.planner.specs.Problem.{tableProblem, orderOf}
 use Rattle.planner.specs.Plan.{verdictOutcome}
 use Rattle.planner.specs.declared.Allocation.{Allocation}
 use Rattle.planner.specs.declared.Verdict.the-variants.{All, Short, Spent}
@@ -29,37 +23,6 @@ use Rattle.planner.specs.declared.Verdict.the-variants.{All, Short, Spen
 -- the complete walk, step by step
 abbrev pub walkOf : Fields → List Step
 walkOf f = trace (inPlanningOrder (tableProblem f) (orderOf f))
-
--- the choices of the n tasks in a row of sixteen
-abbrev pub choicesOf : Fields → List ℕ → List ℕ
-choicesOf f row = take (f .n) row
-
--- The demands and the hyperperiod that every plan goes by are exact: the hyperperiod is the least common multiple of the periods, and a
--- demand times its period is the budget plus the charge, times the hyperperiod. None is 0 or above the hyperperiod.
-pub record ExactDemands (f : Fields) : Type 0 where
-  pub hyperperiod : IsLcm (periodAt f) (f .n) (tableProblem f .capacity)
-  pub demand : (k : ℕ) → k < f .n → entry (tableProblem f .demands) k * periodAt f k ≡ (budgetAt f k + f .charge) * tableProblem f .capacity
-  pub range : (k : ℕ) → k < f .n → (1 ≤ entry (tableProblem f .demands) k) × (entry (tableProblem f .demands) k ≤ tableProblem f .capacity)
-
--- What is promised of every plan: of its placement, a row of sixteen, and of the demand that it is said to reject.
-pub record Safe (f : Fields) (row : List ℕ) (out : ℕ) : Type 0 where
-  -- The weights are exact, and count the charge.
-  pub exact : ExactDemands f
-  -- No plan puts an exact load above one on any core,
-  pub loads : (core : ℕ) → 1 ≤ core → core ≤ f .m → load (tableProblem f) core (choicesOf f row) ≤ hyperperiodOf f
-  -- and each task has a core of the table, or is left out; entries beyond n are 0.
-  pub feasible : Feasible (tableProblem f) (choicesOf f row)
-  -- No task is on a core that its core byte does not permit;
-  pub permitted : (k : ℕ) → k < f .n → 1 ≤ entry row k → permitted (affinityAt f k) (entry row k) ≡ true
-  -- a core byte is 1 if it permits core 1, and 2, 4 and 8 more for cores 2, 3 and 4: it permits a core of the table, and none above.
-  pub bytes : (k : ℕ) → k < f .n → CoreByte (f .m) (affinityAt f k)
-  pub beyond : (k : ℕ) → f .n ≤ k → entry row k ≡ 0
-  -- The rejected demand is that of the placement.
-  pub rejects : out ≡ rejected (tableProblem f) (choicesOf f row)
-
--- The stated order takes the tasks by falling demand, equal demands by shorter period, then by lower number; each task once.
-abbrev pub StatedOrder : Fields → Type 0
-StatedOrder f = InOrder (tableProblem f .demands) (f .periods) (orderOf f) × Permutation (f .n) (orderOf f)
 
 pub record Promise (f : Fields) (limit : ℕ) (r : Allocation) : Type 0 where
   -- No plan puts an exact load above one on any core; each task has a core of the table, or is left out.
@@ -95,9 +58,9 @@ pub record RefusedPlan (r : Allocation) : Type 0 where
   pub rejected : r .rejected ≡ 0
   pub steps : r .steps ≡ 0
 
--- What is promised of the answer for a table, a charge and core bytes: a valid table's plan keeps demand 2, its walk enters choices by the paper's rule,
--- and a refused plan is zeros.
-pub record Plans (table : List ℕ) (charge : ℕ) (affinity : List ℕ) (limit : ℕ) (r : Allocation) : Type 0 where
-  pub promise : Valid table charge affinity → Promise (fieldsOf table charge affinity) limit r
-  pub walks : Valid table charge affinity → WalkRule (fieldsOf table charge affinity)
+-- What is promised of the answer for a table: a valid table's plan keeps demand 2, its walk enters choices by the paper's rule, and a refused
+-- plan is zeros.
+pub record Plans (t : Table) (limit : ℕ) (r : Allocation) : Type 0 where
+  pub promise : t .Valid → Promise (t .fields) limit r
+  pub walks : t .Valid → WalkRule (t .fields)
   pub refused : numberIn (verdictOutcome (r .verdict)) ≢ 0 → RefusedPlan r

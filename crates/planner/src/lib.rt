@@ -1,12 +1,13 @@
 // The exact planner: the best plan of a stored table, within a step limit.
 ghost use mathlib.Core.Path.{_≡_};
-ghost use Rattle.refusal.specs.Conditions.{Decides};
-ghost use Rattle.taskset.specs.Limits.{Checked};
-ghost use Rattle.stored.specs.Limits.{Valid, conditions};
-ghost use Rattle.planner.specs.Plan.{verdictOf, planFor, refusedPlan, planOf, verdictOutcome};
+ghost use Rattle.taskset.specs.Limits.{Checked, Reads};
+ghost use Rattle.taskset.specs.Table.{Decided};
+ghost use Rattle.stored.specs.Limits.{beside};
+ghost use Rattle.planner.specs.Plan.{verdictOf, planFor, refusedPlan, planBy, planOf, verdictOutcome};
 ghost use Rattle.planner.specs.Promise.{Plans};
 use refusal::Cause;
 use refusal::Outcome;
+use taskset::Reading;
 use taskset::TaskSet;
 
 // What the planner says of a plan.
@@ -73,11 +74,10 @@ pub fn plan_tasks(t: TaskSet, limit: u32) -> Allocation
 {
     let n = t.fields.n;
     let order = planning::planning_order(t);
-    let demands = t.demands;
-    let ordered = planning::in_planning_order(demands, order, n);
-    let bytes = t.fields.affinity;
-    let permitted = planning::bytes_in_planning_order(bytes, order, n);
-    let found = search::search(ordered, permitted, n, t.fields.m, t.hyperperiod, limit);
+    let prepared = planning::prepare(t, order);
+    let demands = prepared.demands;
+    let permitted = prepared.affinity;
+    let found = search::search(demands, permitted, n, t.fields.m, t.hyperperiod, limit);
     let choices = found.placement;
     let placement = planning::in_table_order(choices, order, n);
     let verdict = verdict_of(found.spent, found.rejected);
@@ -89,16 +89,24 @@ pub fn plan_tasks(t: TaskSet, limit: u32) -> Allocation
     }
 }
 
-// Plans a stored table, on a board with this charge, each task on the cores that its core byte permits, in at most `limit` steps.
-pub fn plan(table: &[u8], charge: u32, affinity: &[u8], limit: u32) -> Allocation
-    ensures answer { λ r. ⌜ r ≡ planOf (now (table .entry)) charge (now (affinity .entry)) limit ⌝ }
-    ensures decides { λ r. ⌜ Decides (Valid (now (table .entry)) charge (now (affinity .entry))) (conditions (now (table .entry)) charge (now (affinity .entry))) (verdictOutcome (r .verdict)) ⌝ }
-    ensures plans { λ r. ⌜ Plans (now (table .entry)) charge (now (affinity .entry)) limit r ⌝ }
+// The plan of a table that was read, whatever its stored form; a refused one has none.
+pub fn plan_read(reading: Reading, limit: u32) -> Allocation
+    requires { ⌜ Reads reading ⌝ }
+    ensures { λ r. ⌜ r ≡ planBy limit (reading .outcome) (reading .tasks .fields) ⌝ }
 {
-    let reading = stored::read_beside(table, charge, affinity);
     let outcome = reading.outcome;
     match outcome {
         Outcome::Refused(cause) => refused(cause),
         Outcome::Accepted => plan_tasks(reading.tasks, limit),
     }
+}
+
+// Plans a stored table, on a board with this charge, each task on the cores that its core byte permits, in at most `limit` steps.
+pub fn plan(table: &[u8], charge: u32, affinity: &[u8], limit: u32) -> Allocation
+    ensures answer { λ r. ⌜ r ≡ planOf (beside (now (table .entry)) charge (now (affinity .entry))) limit ⌝ }
+    ensures decides { λ r. ⌜ Decided (beside (now (table .entry)) charge (now (affinity .entry))) (verdictOutcome (r .verdict)) ⌝ }
+    ensures plans { λ r. ⌜ Plans (beside (now (table .entry)) charge (now (affinity .entry))) limit r ⌝ }
+{
+    let reading = stored::read_beside(table, charge, affinity);
+    plan_read(reading, limit)
 }

@@ -1,3 +1,4 @@
 pub mod PlainOrder
 pub mod OrderLaws
 pub mod ListedLaws
+pub mod PreparedLaws

@@ -1,34 +1,34 @@
 -- The quick plan keeps what is promised of it, and is accepted exactly for valid tables.
 use Prim.Native.Nat.{ℕ, _≤_, zero-le}
 use mathlib.Core.Path.{_≡_, refl, sym, _∙_, ap}
-use mathlib.Core.List.{List}
 use mathlib.Core.Logic.{_≢_}
 use lib.ListN.{take}
 use native.Mathlib.Omega.{arith}
 use Rattle.numbers.specs.Rows.{row, entry}
 use Rattle.refusal.specs.Causes.{numberIn}
-use Rattle.refusal.specs.Conditions.{Decides}
 use Rattle.refusal.proofs.CauseLaws.{number-range}
-use Rattle.refusal.proofs.ConditionLaws.{decides, accepts}
-use Rattle.refusal.specs.declared.Outcome.{Outcome}
-use Rattle.refusal.specs.declared.Outcome.the-variants as outcome
+use Rattle.refusal.proofs.TestLaws.{accepted≢refused, by-both, by-says}
+use Rattle.refusal.proofs.ConditionLaws.{decides}
+use Rattle.refusal.specs.declared.Cause.{Cause}
+use Rattle.refusal.specs.declared.Outcome.the-variants.{Accepted, Refused}
 use Rattle.taskset.specs.Limits.{Within}
+use Rattle.taskset.specs.Table.{Table, readingOf, Decided, Sound}
 use Rattle.taskset.specs.declared.Fields.{Fields}
-use Rattle.stored.specs.Form.{fieldsOf}
-use Rattle.stored.specs.Tests.{tableOutcome}
-use Rattle.stored.specs.Limits.{Valid, conditions}
-use Rattle.stored.proofs.TableLaws.{table-tested}
+use Rattle.taskset.specs.declared.Reading.{Reading}
+use Rattle.taskset.proofs.TableLaws.{table-accepts, table-within, read-answer}
+use Rattle.planning.specs.Problem.{tableProblem, orderOf}
+use Rattle.plans.specs.Safe.{choicesOf, Safe}
+use Rattle.plans.proofs.SafeLaws.{demands-long, stated-order, order-permutation, row-choices, row-safe}
 use Rattle.allocation.specs.Placement.{rejected}
 use Rattle.allocation.specs.TableOrder.{tableAnswer}
 use Rattle.allocation.specs.FirstFit.{QuickGuarantee}
 use Rattle.allocation.proofs.Quick.{quick-guaranteed}
-use Rattle.planner.specs.Problem.{tableProblem, orderOf}
-use Rattle.planner.specs.Plan.{verdictOf, allocationOf, planFor, refusedPlan, planBy, planOf}
-use Rattle.planner.specs.Promise.{choicesOf, Safe}
-use Rattle.planner.proofs.PromiseLaws.{demands-long, stated-order, order-permutation, row-choices, row-safe, promised}
+use Rattle.planner.specs.Plan.{verdictOf, allocationOf, planFor, refusedPlan}
+use Rattle.planner.proofs.PlanLaws.{plan-refused-is, plan-accepted-is}
+use Rattle.planner.proofs.PromiseLaws.{promised}
 use Rattle.planner.specs.declared.Verdict.the-variants.{All, Spent}
 use Rattle.quick.specs.Quick.{quickPlacement, quickFor, refusedQuick, quickBy, quickOf}
-use Rattle.quick.specs.Promise.{Lowest, Agrees, NoLess, Descent, RefusedQuick}
+use Rattle.quick.specs.Promise.{Lowest, Fits}
 use Rattle.quick.specs.declared.QuickPlan.{QuickPlan}
 
 -- ---- fields within the limits
@@ -80,64 +80,60 @@ module _ (f : Fields) (w : Within f) where
 
 -- ---- a table
 
-pub quick-outcome : (o : Outcome) (f : Fields) → quickBy o f .outcome ≡ o
-unfolding quickBy quickFor refusedQuick
-quick-outcome outcome.Accepted f = refl
-quick-outcome (outcome.Refused c) f = refl
+pub quick-outcome : (t : Table) → quickOf t .outcome ≡ t .outcome
+unfolding quickOf quickBy quickFor refusedQuick
+quick-outcome t = by-says refusedQuick quickFor (λ a. a .outcome) (λ c. refl) (λ f. refl) (t .outcome) (t .fields)
 
--- what is promised whether or not the table is valid
-pub record Answered (s : List ℕ) (charge : ℕ) (affinity : List ℕ) (r : QuickPlan) : Type 0 where
-  pub exact : Agrees s charge affinity r
-  pub no-less : NoLess s charge affinity r
-  pub descent : Descent s charge affinity r
-  pub refused : numberIn (r .outcome) ≢ 0 → RefusedQuick r
+module _ {t : Table} (s : Sound t) where
+  abbrev f : Fields
+  f = t .fields
 
-answered : (s : List ℕ) (charge : ℕ) (affinity : List ℕ) (o : Outcome) → tableOutcome s charge affinity ≡ o → Answered s charge affinity (quickBy o (fieldsOf s charge affinity))
-unfolding quickBy refusedQuick planOf planBy refusedPlan fieldsOf
-answered s charge affinity (outcome.Refused c) e = record {
-  exact = λ z. absurd (omega (arith, number-range c, z));
-  no-less = λ limit h. rw e zero-le;
-  descent = record { placement = rw e; rejected = rw e; later = λ limit h. rw e zero-le };
-  refused = λ n. record { placement = refl; rejected = refl };
-}
-answered s charge affinity outcome.Accepted e =
-    let w : Within (fieldsOf s charge affinity) = accepts (decides (table-tested s charge affinity)) .0 e .fields in
-    record {
-      exact = λ z q limit h. rw e (exact-plan (fieldsOf s charge affinity) w q limit h);
-      no-less = λ limit h. rw e (plan-no-less (fieldsOf s charge affinity) w limit (rw e at h));
-      descent = record {
-        placement = rw e (first-plan (fieldsOf s charge affinity) w);
-        rejected = rw e (first-rejected (fieldsOf s charge affinity) w);
-        later = λ limit h. rw e (later-plans (fieldsOf s charge affinity) w limit h);
-      };
-      refused = λ n. absurd (n (ap numberIn (quick-outcome outcome.Accepted (fieldsOf s charge affinity))));
-    }
+  -- of a refused table
+  refused-fits : (c : Cause) → t .outcome ≡ Refused c → Fits t (refusedQuick c)
+  unfolding refusedQuick refusedPlan
+  refused-fits c e = record {
+    safe = λ v. absurd (accepted≢refused (table-accepts s .1 v) e);
+    lowest = λ v. absurd (accepted≢refused (table-accepts s .1 v) e);
+    exact = λ z. absurd (omega (arith, number-range c, z));
+    no-less = λ limit h. rw (plan-refused-is t limit e) zero-le;
+    descent = record {
+      placement = ap (λ a. a .placement) (plan-refused-is t (f .n) e);
+      rejected = ap (λ a. a .rejected) (plan-refused-is t (f .n) e);
+      later = λ limit h. rw (plan-refused-is t limit e) zero-le;
+    };
+    refused = λ n. record { placement = refl; rejected = refl };
+  }
 
--- every clause of `quick_plan`, of an answer that equals the definition
-module _ (s : List ℕ) (charge : ℕ) (affinity : List ℕ) {r : QuickPlan} (e : r ≡ quickOf s charge affinity) where
-  pub quick-answered : Answered s charge affinity r
-  unfolding quickOf
-  quick-answered = rw e (answered s charge affinity (tableOutcome s charge affinity) refl)
+  -- and of an accepted one
+  accepted-fits : t .outcome ≡ Accepted → Fits t (quickFor f)
+  accepted-fits e =
+      let w : Within f = table-within s e in
+      record {
+        safe = λ v. safe f w;
+        lowest = λ v. lowest f w;
+        exact = λ z q limit h. plan-accepted-is t limit e ∙ exact-plan f w q limit h;
+        no-less = λ limit h. rw (plan-accepted-is t limit e) (plan-no-less f w limit (rw (plan-accepted-is t limit e) at h));
+        descent = record {
+          placement = rw (plan-accepted-is t (f .n) e) (first-plan f w);
+          rejected = rw (plan-accepted-is t (f .n) e) (first-rejected f w);
+          later = λ limit h. rw (plan-accepted-is t limit e) (later-plans f w limit h);
+        };
+        refused = λ n. absurd (n (accepted-says f));
+      }
+    where
+      accepted-says : (f : Fields) → numberIn (quickFor f .outcome) ≡ 0
+      accepted-says f = unfold quickFor in refl
 
-  for-valid : (Q : QuickPlan → Type 0) → (Within (fieldsOf s charge affinity) → Q (quickFor (fieldsOf s charge affinity))) → Valid s charge affinity → Q r
-  unfolding quickOf quickBy
-  for-valid Q h v = rw (e, accepts (decides (table-tested s charge affinity)) .1 v) (h (v .fields))
+  module _ {r : QuickPlan} (e : r ≡ quickOf t) where
+    pub quick-decided : Decided t (r .outcome)
+    quick-decided = rw (e, quick-outcome t) (decides (s .tested))
 
-  pub quick-decides : Decides (Valid s charge affinity) (conditions s charge affinity) (r .outcome)
-  unfolding quickOf
-  quick-decides = rw (e, quick-outcome (tableOutcome s charge affinity) (fieldsOf s charge affinity)) (decides (table-tested s charge affinity))
+    pub quick-fits : Fits t r
+    unfolding quickOf quickBy
+    quick-fits = rw e (by-both refusedQuick quickFor (Fits t) (t .outcome) f refused-fits accepted-fits)
 
-  pub quick-safe : Valid s charge affinity → Safe (fieldsOf s charge affinity) (r .placement) (r .rejected)
-  quick-safe = for-valid (λ x. Safe (fieldsOf s charge affinity) (x .placement) (x .rejected)) (safe (fieldsOf s charge affinity))
-
-  pub quick-lowest : Valid s charge affinity → Lowest (fieldsOf s charge affinity) r
-  quick-lowest = for-valid (Lowest (fieldsOf s charge affinity)) (lowest (fieldsOf s charge affinity))
-
-  -- one within the other, as the contract's clauses stand
-  pub quick-promised : (r ≡ quickOf s charge affinity) × (Decides (Valid s charge affinity) (conditions s charge affinity) (r .outcome)
-      × ((Valid s charge affinity → Safe (fieldsOf s charge affinity) (r .placement) (r .rejected)) × ((Valid s charge affinity → Lowest (fieldsOf s charge affinity) r)
-      × (Agrees s charge affinity r × (NoLess s charge affinity r × (Descent s charge affinity r × (numberIn (r .outcome) ≢ 0 → RefusedQuick r)))))))
-  quick-promised = (
-    e,
-    (quick-decides, (quick-safe, (quick-lowest, (quick-answered .exact, (quick-answered .no-less, (quick-answered .descent, quick-answered .refused)))))),
-  )
+-- all that is said of the quick plan of a table's reading
+pub quick-all : {t : Table} → Sound t → {g : Reading} → g ≡ readingOf t → {r : QuickPlan} → r ≡ quickBy (g .outcome) (g .tasks .fields)
+    → (r ≡ quickOf t) × (Decided t (r .outcome) × Fits t r)
+unfolding quickOf quickBy
+quick-all {t} s e {r} w = let a : r ≡ quickOf t = w ∙ read-answer t e refusedQuick quickFor in (a, (quick-decided s a, quick-fits s a))

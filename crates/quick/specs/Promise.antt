@@ -7,12 +7,12 @@ use lib.ListN.{length, replicate}
 use Rattle.numbers.specs.Reorder.{gather}
 use Rattle.refusal.specs.Causes.{numberIn}
 use Rattle.taskset.specs.declared.Fields.{Fields}
-use Rattle.stored.specs.Form.{taskCount}
+use Rattle.taskset.specs.Table.{Table}
 use Rattle.allocation.specs.FirstFit.{OnLowest}
 use Rattle.allocation.specs.TableOrder.{inPlanningOrder}
-use Rattle.planner.specs.Problem.{tableProblem, orderOf}
+use Rattle.planning.specs.Problem.{tableProblem, orderOf}
 use Rattle.planner.specs.Plan.{planOf}
-use Rattle.planner.specs.Promise.{choicesOf, StatedOrder}
+use Rattle.plans.specs.Safe.{choicesOf, Safe, StatedOrder}
 use Rattle.planner.specs.declared.Verdict.the-variants.{All, Spent}
 use Rattle.quick.specs.declared.QuickPlan.{QuickPlan}
 
@@ -26,23 +26,32 @@ pub record Lowest (f : Fields) (r : QuickPlan) : Type 0 where
   pub ordered : StatedOrder f
 
 -- If it is accepted and leaves nothing out, the exact planner with any limit of at least n gives the same placement in n steps.
-abbrev pub Agrees : List ℕ → ℕ → List ℕ → QuickPlan → Type 0
-Agrees table charge affinity r = numberIn (r .outcome) ≡ 0 → r .rejected ≡ 0 → (limit : ℕ) → taskCount table ≤ limit
-    → planOf table charge affinity limit ≡ record { verdict = All; placement = r .placement; rejected = 0; steps = taskCount table }
+abbrev pub Agrees : Table → QuickPlan → Type 0
+Agrees t r = numberIn (r .outcome) ≡ 0 → r .rejected ≡ 0 → (limit : ℕ) → t .fields .n ≤ limit
+    → planOf t limit ≡ record { verdict = All; placement = r .placement; rejected = 0; steps = t .fields .n }
 
 -- Its left-out weight is never below the exact planner's, unless that one was spent.
-abbrev pub NoLess : List ℕ → ℕ → List ℕ → QuickPlan → Type 0
-NoLess table charge affinity r = (limit : ℕ) → planOf table charge affinity limit .verdict ≢ Spent → planOf table charge affinity limit .rejected ≤ r .rejected
+abbrev pub NoLess : Table → QuickPlan → Type 0
+NoLess t r = (limit : ℕ) → planOf t limit .verdict ≢ Spent → planOf t limit .rejected ≤ r .rejected
 
 -- It is the walk's first descent.
-pub record Descent (table : List ℕ) (charge : ℕ) (affinity : List ℕ) (r : QuickPlan) : Type 0 where
+pub record Descent (t : Table) (r : QuickPlan) : Type 0 where
   -- With a limit of n the exact planner returns this placement, spent or not,
-  pub placement : planOf table charge affinity (taskCount table) .placement ≡ r .placement
-  pub rejected : planOf table charge affinity (taskCount table) .rejected ≡ r .rejected
+  pub placement : planOf t (t .fields .n) .placement ≡ r .placement
+  pub rejected : planOf t (t .fields .n) .rejected ≡ r .rejected
   -- and with a larger one none that leaves out more.
-  pub later : (limit : ℕ) → taskCount table ≤ limit → planOf table charge affinity limit .rejected ≤ r .rejected
+  pub later : (limit : ℕ) → t .fields .n ≤ limit → planOf t limit .rejected ≤ r .rejected
 
 -- A refused quick plan is all zeros beside its cause.
 pub record RefusedQuick (r : QuickPlan) : Type 0 where
   pub placement : r .placement ≡ replicate 16 0
   pub rejected : r .rejected ≡ 0
+
+-- What is promised of the answer for a table.
+pub record Fits (t : Table) (r : QuickPlan) : Type 0 where
+  pub safe : t .Valid → Safe (t .fields) (r .placement) (r .rejected)
+  pub lowest : t .Valid → Lowest (t .fields) r
+  pub exact : Agrees t r
+  pub no-less : NoLess t r
+  pub descent : Descent t r
+  pub refused : numberIn (r .outcome) ≢ 0 → RefusedQuick r

@@ -3,17 +3,15 @@ use Prim.Native.Nat.{ℕ}
 use mathlib.Core.List.{List}
 use lib.ListN.{replicate}
 use Rattle.numbers.specs.Rows.{row, entry}
+use Rattle.refusal.specs.Tests.{byOutcome}
 use Rattle.refusal.specs.declared.Cause.{Cause}
 use Rattle.refusal.specs.declared.Outcome.{Outcome}
 use Rattle.refusal.specs.declared.Outcome.the-variants.{Accepted, Refused}
 use Rattle.taskset.specs.declared.Fields.{Fields}
-use Rattle.stored.specs.Form.{fieldsOf}
-use Rattle.stored.specs.Tests.{tableOutcome}
-use Rattle.setup.specs.Form.{setupFields}
-use Rattle.setup.specs.Tests.{setupOutcome}
+use Rattle.taskset.specs.Table.{Table}
+use Rattle.planning.specs.Problem.{tableProblem, orderOf}
 use Rattle.allocation.specs.Placement.{rejected}
 use Rattle.allocation.specs.FirstFit.{tableFit}
-use Rattle.planner.specs.Problem.{tableProblem, orderOf}
 use Rattle.quick.specs.declared.QuickPlan.{QuickPlan}
 
 -- the tasks in planning order, each on the lowest permitted core where it fits, or left out; in table order
@@ -32,15 +30,10 @@ quickFor f = record {
 unfoldable pub refusedQuick : Cause → QuickPlan
 refusedQuick cause = record { outcome = Refused cause; placement = replicate 16 0; rejected = 0 }
 
--- the answer by the outcome of the table's tests
+-- the answer by the outcome of a table's tests and by its fields
 unfoldable pub quickBy : Outcome → Fields → QuickPlan
-quickBy (Refused cause) f = refusedQuick cause
-quickBy Accepted f = quickFor f
+quickBy = byOutcome refusedQuick quickFor
 
--- the answer for a table, the charge and the core bytes beside it
-unfoldable pub quickOf : List ℕ → ℕ → List ℕ → QuickPlan
-quickOf s charge affinity = quickBy (tableOutcome s charge affinity) (fieldsOf s charge affinity)
-
--- the answer for a table in the new form
-unfoldable pub setupQuick : List ℕ → QuickPlan
-setupQuick s = quickBy (setupOutcome s) (setupFields s)
+-- the answer for a table
+unfoldable pub quickOf : Table → QuickPlan
+quickOf t = quickBy (t .outcome) (t .fields)

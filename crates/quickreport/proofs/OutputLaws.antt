@@ -1,18 +1,19 @@
 -- The whole output is the one that the definition gives.
 use Prim.Native.Nat.{ℕ}
-use mathlib.Core.Path.{_≡_, sym, _∙_}
+use mathlib.Core.Path.{_≡_, refl, sym, _∙_, ap, ap₂}
 use mathlib.Core.List.{List, []}
 use native.Mathlib.Omega.{arith}
 use Rattle.refusal.specs.declared.Cause.{Cause}
 use Rattle.refusal.specs.declared.Outcome.{Outcome}
 use Rattle.refusal.specs.declared.Outcome.the-variants as outcome
-use Rattle.taskset.specs.Reading.{taskSetOf, acceptedReading, readingBy}
+use Rattle.taskset.specs.Reading.{taskSetOf}
 use Rattle.taskset.specs.declared.Fields.{Fields}
 use Rattle.taskset.specs.declared.TaskSet.{TaskSet}
-use Rattle.setup.specs.Form.{setupFields}
-use Rattle.setup.specs.Tests.{setupOutcome, setupReading}
-use Rattle.quick.specs.Quick.{quickFor, quickBy, setupQuick}
+use Rattle.taskset.specs.Table.{Table, readingOf, Sound}
+use Rattle.taskset.proofs.TableLaws.{read-outcome, read-tasks}
+use Rattle.quick.specs.Quick.{quickFor, quickOf}
 use Rattle.quick.specs.declared.QuickPlan.{QuickPlan}
+use Rattle.quick.proofs.QuickLaws.{quick-accepted-is}
 use Rattle.quick.proofs.PromiseLaws.{quick-outcome}
 use Rattle.text.specs.Ascii.{ascii}
 use Rattle.text.specs.Decimal.{field}
@@ -43,12 +44,14 @@ never-refused f {plan} e q h =
     omega arith
 
 -- the definition, by the outcome of the table's tests
-output-is : (s : List ℕ) → quickOutputOf s ≡ printed (setupOutcome s) (quickLines (taskSetOf (setupFields s)) (quickFor (setupFields s)))
-unfolding quickOutputOf setupQuick quickBy setupReading readingBy acceptedReading
-output-is s = rw (quick-outcome (setupOutcome s) (setupFields s)) (printed-same (setupOutcome s) (λ e. rw e))
+output-is : (t : Table) → quickOutputOf t ≡ printed (t .outcome) (quickLines (taskSetOf (t .fields)) (quickFor (t .fields)))
+unfolding quickOutputOf
+output-is t =
+    ap (λ o. printed o (quickLines (readingOf t .tasks) (quickOf t))) (quick-outcome t)
+    ∙ printed-same (t .outcome) (λ e. ap₂ quickLines (read-tasks t refl (read-outcome t refl ∙ e)) (quick-accepted-is t e))
 
 -- ---- from the reader's answer to the output: both clauses of `report`
 
-pub output-both : (s : List ℕ) {x : List ℕ} → x ≡ printed (setupOutcome s) (quickLines (taskSetOf (setupFields s)) (quickFor (setupFields s)))
-    → (x ≡ quickOutputOf s) × Reported s x
-output-both s e = (e ∙ sym (output-is s), in-terms s _ e)
+pub output-both : {t : Table} → Sound t → {x : List ℕ} → x ≡ printed (t .outcome) (quickLines (taskSetOf (t .fields)) (quickFor (t .fields)))
+    → (x ≡ quickOutputOf t) × Reported t x
+output-both {t} s e = (e ∙ sym (output-is t), in-terms s _ e)

@@ -5,9 +5,8 @@ use Rattle.text.specs.Ascii.{ascii}
 use Rattle.text.specs.Decimal.{field}
 use Rattle.taskset.specs.Reading.{taskSetOf}
 use Rattle.taskset.specs.declared.TaskSet.{TaskSet}
-use Rattle.setup.specs.Form.{setupFields}
-use Rattle.setup.specs.Tests.{setupReading}
-use Rattle.quick.specs.Quick.{quickFor, setupQuick}
+use Rattle.taskset.specs.Table.{Table, readingOf}
+use Rattle.quick.specs.Quick.{quickFor, quickOf}
 use Rattle.quick.specs.declared.QuickPlan.{QuickPlan}
 use Rattle.listing.specs.Lines.{tableLines}
 use Rattle.listing.specs.Printed.{printed, Printed}
@@ -20,10 +19,10 @@ quickSummary plan = ascii "quick" ++ field (plan .rejected) ++ ascii "\n"
 unfoldable pub quickLines : TaskSet → QuickPlan → List ℕ
 quickLines t plan = tableLines t (plan .placement) ++ quickSummary plan
 
--- the output for the bytes of a table in the new form: its quick plan
-unfoldable pub quickOutputOf : List ℕ → List ℕ
-quickOutputOf s = printed (setupQuick s .outcome) (quickLines (setupReading s .tasks) (setupQuick s))
+-- the output for a table: its quick plan
+unfoldable pub quickOutputOf : Table → List ℕ
+quickOutputOf t = printed (quickOf t .outcome) (quickLines (readingOf t .tasks) (quickOf t))
 
 -- A valid table's output is its sizes, its tasks and its quick plan; a refused one's is its refusal alone.
-abbrev pub Reported : List ℕ → List ℕ → Type 0
-Reported s output = Printed s (quickLines (taskSetOf (setupFields s)) (quickFor (setupFields s))) output
+abbrev pub Reported : Table → List ℕ → Type 0
+Reported t output = Printed t (quickLines (taskSetOf (t .fields)) (quickFor (t .fields))) output

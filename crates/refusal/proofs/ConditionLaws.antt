@@ -6,10 +6,11 @@ use mathlib.Core.Bool.{Bool, true, true≢false}
 use mathlib.Core.Logic.{inl, inr, ⊎-elim, _↔_}
 use native.Mathlib.Omega.{arith}
 use Rattle.numbers.specs.First.{first}
+use Rattle.numbers.proofs.BoundLaws.{less-exactly, not-less}
 use Rattle.numbers.proofs.FirstLaws.{first-is, first-zero, isFirst-unique, isFirst-map}
 use Rattle.refusal.specs.Causes.{numberOf, placeOf, numberIn, placeIn}
-use Rattle.refusal.specs.Tests.{_then_, refuseIf, refuseAt}
-use Rattle.refusal.specs.Conditions.{Condition, only, at, HoldsAt, Fails, None, First, Gives, Decides}
+use Rattle.refusal.specs.Tests.{_then_, refuseIf, refuseAt, roomTest}
+use Rattle.refusal.specs.Conditions.{Condition, only, at, HoldsAt, Fails, None, First, Gives, Decides, Reports, Tested, noRoom}
 use Rattle.refusal.specs.declared.Cause.{Cause}
 use Rattle.refusal.specs.declared.Outcome.{Outcome}
 use Rattle.refusal.specs.declared.Outcome.the-variants.{Accepted, Refused}
@@ -72,10 +73,6 @@ module _ (c : Condition) (ds : List Condition) where
   first-without (b ∷ cs) f k p (inr a) = inr (a .0, first-without cs (λ n. f (a .0, n)) k p (a .1))
 
 -- ---- what an outcome reports of a list of conditions
-
-pub record Reports (cs : List Condition) (o : Outcome) : Type 0 where
-  pub accepted : o ≡ Accepted → None cs
-  pub refused : (c : Cause) → o ≡ Refused c → First cs (numberOf c) (placeOf c)
 
 -- one call's tests after another's; the second may take for granted that no condition of the first holds
 pub then-reports : (cs ds : List Condition) {o p : Outcome} → Reports cs o → (None cs → Reports ds p) → Reports (cs ++ ds) (o then p)
@@ -149,12 +146,7 @@ module _ {cs : List Condition} {o : Outcome} (r : Reports cs o) where
       (λ e. rw (← g .0, ← g .1, e .1) (r .refused (e .0) (e .1)))
       (outcome-cases o)
 
--- The tests of a call report its conditions, and none of these holds exactly if the call is valid.
-pub record Tested (Valid : Type 0) (cs : List Condition) (o : Outcome) : Type 0 where
-  pub reports : Reports cs o
-  pub valid : None cs ↔ Valid
-
--- They decide,
+-- Tests that report their conditions decide,
 pub decides : {Valid : Type 0} {cs : List Condition} {o : Outcome} → Tested Valid cs o → Decides Valid cs o
 decides {o = o} t = record {
   accepted = (
@@ -201,3 +193,14 @@ accepts {o = o} d = (λ e. d .accepted .0 (accepted-gives e), λ v. gives-accept
 -- outcomes of the same number and place decide the same
 pub decides-same : {Valid : Type 0} {cs : List Condition} (o p : Outcome) → numberIn o ≡ numberIn p → placeIn o ≡ placeIn p → Decides Valid cs p → Decides Valid cs o
 decides-same o p a b d = record { accepted = rw (a, b) (d .accepted); refused = λ k q h. rw (a, b) (d .refused k q h) }
+
+-- the same tests under limits that say the same
+pub tested-as : {A B : Type 0} {cs : List Condition} {o : Outcome} → A ↔ B → Tested A cs o → Tested B cs o
+tested-as h t = record { reports = t .reports; valid = (λ n. h .0 (t .valid .0 n), λ v. t .valid .1 (h .1 v)) }
+
+-- the test of a lent output's room
+pub room-tested : (c : Cause) → placeOf c ≡ 0 → (size room : ℕ) → Tested (size ≤ room) (noRoom (numberOf c) size room ∷ []) (roomTest c size room)
+room-tested c z size room = record {
+  reports = test-only c z (less-exactly room size);
+  valid = (λ n. not-less _ _ (n .0), λ h. (λ g. omega arith, tt));
+}

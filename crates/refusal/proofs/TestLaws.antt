@@ -7,7 +7,7 @@ use lib.Dec.{eqb}
 use mathlib.Core.Logic.{_⊎_, inl, inr}
 use native.Mathlib.Omega.{arith}
 use borrow.Author.Tests.{ne-eqb}
-use Rattle.refusal.specs.Tests.{_then_, refuseIf, refuseAt, inOrder}
+use Rattle.refusal.specs.Tests.{_then_, refuseIf, refuseAt, inOrder, byOutcome}
 use Rattle.refusal.specs.declared.Cause.{Cause}
 use Rattle.refusal.specs.declared.Outcome.{Outcome}
 use Rattle.refusal.specs.declared.Outcome.the-variants.{Accepted, Refused}
@@ -97,3 +97,25 @@ pub order-last : {t x : Outcome} → t ≡ x → t ≡ inOrder (x ∷ [])
 unfolding inOrder _then_
 order-last {x = Accepted} e = e
 order-last {x = Refused c} e = e
+
+-- What a call answers by the outcome of its tests.
+module _ {A B : Type 0} (no : Cause → A) (yes : B → A) where
+  pub by-accepted : {o : Outcome} (x : B) → o ≡ Accepted → byOutcome no yes o x ≡ yes x
+  unfolding byOutcome
+  by-accepted x e = rw e
+
+  pub by-refused : {o : Outcome} (x : B) {c : Cause} → o ≡ Refused c → byOutcome no yes o x ≡ no c
+  unfolding byOutcome
+  by-refused x e = rw e
+
+  -- it has what both have
+  pub by-both : (P : A → Type 0) (o : Outcome) (x : B) → ((c : Cause) → o ≡ Refused c → P (no c)) → (o ≡ Accepted → P (yes x)) → P (byOutcome no yes o x)
+  unfolding byOutcome
+  by-both P (Refused c) x n y = n c refl
+  by-both P Accepted x n y = y refl
+
+  -- and says that outcome, where each of both says its own
+  pub by-says : (says : A → Outcome) → ((c : Cause) → says (no c) ≡ Refused c) → ((x : B) → says (yes x) ≡ Accepted) → (o : Outcome) (x : B) → says (byOutcome no yes o x) ≡ o
+  unfolding byOutcome
+  by-says says n y (Refused c) x = n c
+  by-says says n y Accepted x = y x

@@ -4,8 +4,10 @@ use mathlib.Core.Path.{_≡_}
 use mathlib.Core.List.{List, [], _∷_}
 use mathlib.Core.Logic.{_⊎_, _↔_}
 use Rattle.numbers.specs.First.{FirstAt}
-use Rattle.refusal.specs.Causes.{numberIn, placeIn}
+use Rattle.refusal.specs.Causes.{numberOf, placeOf, numberIn, placeIn}
+use Rattle.refusal.specs.declared.Cause.{Cause}
 use Rattle.refusal.specs.declared.Outcome.{Outcome}
+use Rattle.refusal.specs.declared.Outcome.the-variants.{Accepted, Refused}
 
 -- One row of the paper's table, under its number: `only 4 P` holds if P does;
 -- `at 5 P n` holds if P does at one of the indices below n.
@@ -47,3 +49,17 @@ Gives outcome number place = (numberIn outcome ≡ number) × (placeIn outcome �
 pub record Decides (Valid : Type 0) (conditions : List Condition) (outcome : Outcome) : Type 0 where
   pub accepted : Gives outcome 0 0 ↔ Valid
   pub refused : (number place : ℕ) → 1 ≤ number → Gives outcome number place ↔ First conditions number place
+
+-- What an outcome reports of a list of conditions: where it accepts none holds, and a refusal is that of the first that does.
+pub record Reports (cs : List Condition) (o : Outcome) : Type 0 where
+  pub accepted : o ≡ Accepted → None cs
+  pub refused : (c : Cause) → o ≡ Refused c → First cs (numberOf c) (placeOf c)
+
+-- The tests of a call report its conditions, and none of these holds exactly if the call is valid.
+pub record Tested (Valid : Type 0) (cs : List Condition) (o : Outcome) : Type 0 where
+  pub reports : Reports cs o
+  pub valid : None cs ↔ Valid
+
+-- A lent output is shorter than what is to stand in it.
+abbrev pub noRoom : ℕ → ℕ → ℕ → Condition
+noRoom number size room = only number (room < size)

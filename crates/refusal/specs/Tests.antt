@@ -2,6 +2,7 @@
 use Prim.Native.Nat.{ℕ, zero, suc}
 use mathlib.Core.Bool.{Bool, true, false}
 use mathlib.Core.List.{List, [], _∷_}
+use lib.Dec.{ltb}
 use Rattle.refusal.specs.declared.Cause.{Cause}
 use Rattle.refusal.specs.declared.Outcome.{Outcome}
 use Rattle.refusal.specs.declared.Outcome.the-variants.{Accepted, Refused}
@@ -26,3 +27,12 @@ refuseAt (suc k) cause = Refused (cause (suc k))
 unfoldable pub inOrder : List Outcome → Outcome
 inOrder [] = Accepted
 inOrder (test ∷ tests) = test then inOrder tests
+
+-- refused if a lent output has no room for what is to stand in it
+abbrev pub roomTest : Cause → ℕ → ℕ → Outcome
+roomTest cause size room = refuseIf (ltb room size) cause
+
+-- what a call answers, by the outcome of its tests: what it says of a refusal, or its answer to what was accepted
+unfoldable pub byOutcome : {A B : Type 0} → (Cause → A) → (B → A) → Outcome → B → A
+byOutcome refused answer (Refused cause) given = refused cause
+byOutcome refused answer Accepted given = answer given

@@ -1,7 +1,7 @@
 // Why a call is refused, with the number and place that the paper gives; and tests made in order.
 ghost use mathlib.Core.Path.{_≡_};
 ghost use Rattle.refusal.specs.Causes.{numberOf, placeOf};
-ghost use Rattle.refusal.specs.Tests.{_then_, refuseIf};
+ghost use Rattle.refusal.specs.Tests.{_then_, refuseIf, roomTest};
 
 // The paper's causes, with the task or slot where it names one, counted from 1.
 pub enum Cause {
@@ -102,4 +102,11 @@ pub fn refuse_if(condition: bool, cause: Cause) -> Outcome
     } else {
         Outcome::Accepted
     }
+}
+
+// Refused if a lent output of length `room` is shorter than what is to stand in it.
+pub fn room_test(cause: Cause, size: usize, room: usize) -> Outcome
+    ensures { λ r. ⌜ r ≡ roomTest cause size room ⌝ }
+{
+    refuse_if(room < size, cause)
 }

@@ -1,17 +1,18 @@
 -- The whole output is the one that the definition gives.
 use Prim.Native.Nat.{ℕ}
-use mathlib.Core.Path.{_≡_, sym, _∙_}
+use mathlib.Core.Path.{_≡_, refl, sym, _∙_}
 use mathlib.Core.List.{List, []}
 use native.Mathlib.Omega.{arith}
 use Rattle.refusal.specs.declared.Cause.{Cause}
 use Rattle.refusal.specs.declared.Outcome.the-variants as outcome
-use Rattle.taskset.specs.Reading.{taskSetOf, acceptedReading, readingBy}
+use Rattle.taskset.specs.Reading.{taskSetOf}
 use Rattle.taskset.specs.declared.Fields.{Fields}
 use Rattle.taskset.specs.declared.TaskSet.{TaskSet}
-use Rattle.setup.specs.Form.{setupFields}
-use Rattle.setup.specs.Tests.{setupOutcome, setupReading}
-use Rattle.planner.specs.Plan.{allocationOf, planFor, planBy, setupPlan, verdictOutcome}
-use Rattle.planner.proofs.PromiseLaws.{outcome-planned, setup-outcome}
+use Rattle.taskset.specs.Table.{Table, Sound}
+use Rattle.taskset.proofs.TableLaws.{read-outcome, read-tasks}
+use Rattle.planner.specs.Plan.{planFor, verdictOutcome}
+use Rattle.planner.proofs.PromiseLaws.{planned-says, plan-outcome}
+use Rattle.planner.proofs.PlanLaws.{plan-accepted-is}
 use Rattle.planner.specs.declared.Allocation.{Allocation}
 use Rattle.planner.specs.declared.Verdict.{Verdict}
 use Rattle.planner.specs.declared.Verdict.the-variants as verdict
@@ -31,19 +32,19 @@ plan-whole s plan e p q = append-whole e (append-both p q) (omega arith)
 
 -- The verdict of a plan is no refusal.
 pub never-refused : (f : Fields) (limit : ℕ) {plan : Allocation} {v : Verdict} {cause : Cause} → plan ≡ planFor f limit → plan .verdict ≡ v → v ≡ verdict.Refused cause → ⊥
-unfolding planFor allocationOf verdictOutcome
+unfolding verdictOutcome
 never-refused f limit {plan} e q h =
-    let a : verdictOutcome (plan .verdict) ≡ outcome.Accepted = rw e (outcome-planned _ _) in
+    let a : verdictOutcome (plan .verdict) ≡ outcome.Accepted = rw e (planned-says f limit) in
     let z : _≡_ {A = ℕ} 0 1 = cc in
     omega arith
 
 -- the definition, by the outcome of the table's tests
-output-is : (s : List ℕ) → outputOf s ≡ printed (setupOutcome s) (planLines (taskSetOf (setupFields s)) (planFor (setupFields s) 1000000))
-unfolding outputOf setupPlan planBy setupReading readingBy acceptedReading
-output-is s = rw (setup-outcome s 1000000) (printed-same (setupOutcome s) (λ e. rw e))
+output-is : (t : Table) → outputOf t ≡ printed (t .outcome) (planLines (taskSetOf (t .fields)) (planFor (t .fields) 1000000))
+unfolding outputOf
+output-is t = rw (plan-outcome t 1000000) (printed-same (t .outcome) (λ e. rw (plan-accepted-is t 1000000 e, read-tasks t refl (read-outcome t refl ∙ e))))
 
 -- ---- from the reader's answer to the output: both clauses of `report`
 
-pub output-both : (s : List ℕ) {x : List ℕ} → x ≡ printed (setupOutcome s) (planLines (taskSetOf (setupFields s)) (planFor (setupFields s) 1000000))
-    → (x ≡ outputOf s) × Reported s x
-output-both s e = (e ∙ sym (output-is s), in-terms s _ e)
+pub output-both : {t : Table} → Sound t → {x : List ℕ} → x ≡ printed (t .outcome) (planLines (taskSetOf (t .fields)) (planFor (t .fields) 1000000))
+    → (x ≡ outputOf t) × Reported t x
+output-both {t} s e = (e ∙ sym (output-is t), in-terms s _ e)

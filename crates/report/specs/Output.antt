@@ -4,8 +4,8 @@ use mathlib.Core.List.{List, _++_}
 use Rattle.text.specs.Ascii.{ascii}
 use Rattle.text.specs.Decimal.{field}
 use Rattle.taskset.specs.declared.TaskSet.{TaskSet}
-use Rattle.setup.specs.Tests.{setupReading}
-use Rattle.planner.specs.Plan.{setupPlan, verdictOutcome}
+use Rattle.taskset.specs.Table.{Table, readingOf}
+use Rattle.planner.specs.Plan.{planOf, verdictOutcome}
 use Rattle.planner.specs.declared.Allocation.{Allocation}
 use Rattle.planner.specs.declared.Verdict.{Verdict}
 use Rattle.planner.specs.declared.Verdict.the-variants.{All, Short, Spent, Refused}
@@ -27,6 +27,6 @@ summaryLine plan = verdictWord (plan .verdict) ++ field (plan .rejected) ++ fiel
 unfoldable pub planLines : TaskSet → Allocation → List ℕ
 planLines t plan = tableLines t (plan .placement) ++ summaryLine plan
 
--- the output for the bytes of a table in the new form: its plan within 1,000,000 steps
-unfoldable pub outputOf : List ℕ → List ℕ
-outputOf s = printed (verdictOutcome (setupPlan s 1000000 .verdict)) (planLines (setupReading s .tasks) (setupPlan s 1000000))
+-- the output for a table: its plan within 1,000,000 steps
+unfoldable pub outputOf : Table → List ℕ
+outputOf t = printed (verdictOutcome (planOf t 1000000 .verdict)) (planLines (readingOf t .tasks) (planOf t 1000000))

@@ -1,117 +1,76 @@
--- A table in the new form is accepted exactly if it is within the limits, and refused with the first condition that holds.
-use Prim.Native.Nat.{ℕ}
-use mathlib.Core.Path.{_≡_, refl, sym, _∙_, ap}
+-- The tests of a table in the new form are those of its limits and refusals.
+use Prim.Native.Nat.{ℕ, _<_}
+use mathlib.Core.Path.{_≡_, refl, sym, _∙_}
 use mathlib.Core.List.{List, [], _∷_, _++_}
-use mathlib.Core.Logic.{_↔_}
 use lib.ListN.{length}
 use native.Mathlib.Omega.{arith}
 use Rattle.numbers.proofs.BoundLaws.{less-exactly, unequal-exactly, not-unequal}
 use Rattle.refusal.specs.Tests.{_then_, inOrder}
-use Rattle.refusal.specs.Conditions.{Condition, Decides}
+use Rattle.refusal.specs.Conditions.{Tested}
 use Rattle.refusal.specs.declared.Cause.the-variants.{TooShort, Length, FirstByte}
 use Rattle.refusal.specs.declared.Outcome.{Outcome}
 use Rattle.refusal.specs.declared.Outcome.the-variants.{Accepted}
-use Rattle.refusal.proofs.TestLaws.{then-accepted, then-assoc, inOrder-append}
-use Rattle.refusal.proofs.ConditionLaws.{Reports, test-only, _and_, then-reports, none-append, _also_, Tested, unnamed, decides, accepts}
-use Rattle.taskset.specs.Tests.{sizeTests, limitTests}
-use Rattle.taskset.specs.Reading.{acceptedReading, readingBy, taskSetOf}
-use Rattle.taskset.specs.Limits.{Sized, sizes, chargeAbove, periodOutside, budgetOutside, costAbove, rowOther, affinityUnfit, multipleAbove, limits, Reads}
+use Rattle.refusal.proofs.ConditionLaws.{test-only, _and_, join, tested-as, unnamed, decides, accepts}
+use Rattle.taskset.specs.Tests.{limitTests}
+use Rattle.taskset.specs.Reading.{readingBy}
+use Rattle.taskset.specs.Limits.{Sized, sizes, chargeAbove, periodOutside, budgetOutside, costAbove, rowOther, affinityUnfit, multipleAbove, Reads}
+use Rattle.taskset.specs.Table.{readingOf, Decided, Sound}
 use Rattle.taskset.specs.declared.Fields.{Fields}
 use Rattle.taskset.specs.declared.Reading.{Reading}
-use Rattle.taskset.proofs.LimitLaws.{sizes-reported, sizes-kept, limits-reported, limits-kept, within-kept, row-every}
-use Rattle.taskset.proofs.ReadingLaws.{reading-outcome, reading-accepted, reading-promised}
+use Rattle.taskset.proofs.LimitLaws.{sizes-reported, sizes-kept, row-every}
+use Rattle.taskset.proofs.TableLaws.{after-tested, read-after, table-accepts, read-outcome, read-fields, read-decided, read-reads}
 use Rattle.setup.specs.Form.{firstByte, taskCount, setupLength, setupFields}
-use Rattle.setup.specs.Tests.{shortTest, firstTest, lengthTest, setupOutcome, setupReading}
-use Rattle.setup.specs.Limits.{ValidSetup, tooShort, firstOther, otherLength, setupConditions, ReadsSetup}
+use Rattle.setup.specs.Tests.{shapeOutcome, setupOutcome}
+use Rattle.setup.specs.Limits.{ValidSetup, tooShort, firstOther, otherLength, setupConditions, new, ReadsSetup}
 use Rattle.setup.proofs.FormLaws.{fields-form, fields-beyond}
 
-module _ (s : List ℕ) where
-  abbrev f : Fields
-  f = setupFields s
+-- the tests of the form: numbers 1 and 17, the sizes, number 4
+shape-tested : (s : List ℕ) (f : Fields)
+    → Tested (((length s < 4 → ⊥) × ((firstByte s ≡ 0) × Sized f)) × (length s ≡ setupLength (taskCount s))) ((tooShort s ∷ firstOther s ∷ sizes f) ++ otherLength s ∷ []) (shapeOutcome s f)
+unfolding shapeOutcome inOrder
+shape-tested s f =
+    join (record {
+      reports = test-only TooShort refl (less-exactly (length s) 4) and test-only FirstByte refl (unequal-exactly (firstByte s) 0) and sizes-reported f;
+      valid = (λ n. (n .0, (not-unequal _ _ (n .1 .0), sizes-kept f .0 (n .1 .1))), λ v. (v .0, ((λ n. n (v .1 .0)), sizes-kept f .1 (v .1 .1))));
+    }) (record {
+      reports = test-only Length refl (unequal-exactly (length s) (setupLength (taskCount s)));
+      valid = (λ n. not-unequal _ _ (n .0), λ v. ((λ n. n v), tt));
+    })
 
-  -- the tests before number 4, and from there on
-  abbrev front : List Condition
-  front = tooShort s ∷ firstOther s ∷ sizes f
+-- Of number 15 the length of the row of core bytes is not in question.
+pub setup-tested : (s : List ℕ) → Tested (ValidSetup s) (setupConditions s) (setupOutcome s)
+unfolding setupOutcome setupFields
+setup-tested s =
+    let f : Fields = setupFields s in
+    unnamed (tooShort s ∷ firstOther s ∷ sizes f ++ otherLength s ∷ chargeAbove f ∷ periodOutside f ∷ budgetOutside f ∷ costAbove f ∷ []) (rowOther f)
+    (affinityUnfit f ∷ multipleAbove f ∷ []) (λ n. row-every f refl)
+    (tested-as (
+      λ v. record { first = v .0 .0 .1 .0; exact = v .0 .1; fields = v .1 },
+      λ v. ((((λ h. omega (arith, v .exact)), (v .first, v .fields .sizes)), v .exact), v .fields),
+    )
+    (after-tested f (λ v. v .0 .1 .1) (shape-tested s f)))
 
-  abbrev behind : List Condition
-  behind = otherLength s ∷ limits f
-
-  front-reported : Reports front (inOrder (shortTest s ∷ firstTest s ∷ sizeTests f))
-  unfolding inOrder
-  front-reported = test-only TooShort refl (less-exactly (length s) 4) and test-only FirstByte refl (unequal-exactly (firstByte s) 0) and sizes-reported f
-
-  behind-reported : Reports behind (inOrder (lengthTest s ∷ limitTests f))
-  unfolding inOrder
-  behind-reported = test-only Length refl (unequal-exactly (length s) (setupLength (taskCount s))) and limits-reported f
-
-  -- with the row of core bytes, whose length is not in question
-  tested : Tested (ValidSetup s) (front ++ behind) (setupOutcome s)
-  unfolding setupOutcome
-  tested = record {
-    reports = rw (inOrder-append (shortTest s ∷ firstTest s ∷ sizeTests f) (lengthTest s ∷ limitTests f)) (then-reports front behind front-reported (λ _. behind-reported));
-    valid = (
-      λ n.
-          let r = none-append front behind .0 n in
-          record { first = not-unequal _ _ (r .0 .1 .0); exact = not-unequal _ _ (r .1 .0); fields = limits-kept f (sizes-kept f .0 (r .0 .1 .1)) (r .1 .1) },
-      λ v. none-append front behind .1 (
-        (λ h. omega (arith, v .exact)) also (λ n. n (v .first)) also sizes-kept f .1 (v .fields .sizes),
-        (λ n. n (v .exact)) also within-kept f (v .fields),
-      ),
-    );
-  }
-
-  pub setup-tested : Tested (ValidSetup s) (setupConditions s) (setupOutcome s)
-  unfolding setupFields
-  setup-tested =
-      unnamed (front ++ otherLength s ∷ chargeAbove f ∷ periodOutside f ∷ budgetOutside f ∷ costAbove f ∷ []) (rowOther f)
-      (affinityUnfit f ∷ multipleAbove f ∷ []) (λ n. row-every f refl) tested
-
-  -- the tests accept exactly a valid table
-  pub setup-accepts : (setupOutcome s ≡ Accepted) ↔ ValidSetup s
-  setup-accepts = accepts (decides setup-tested)
-
-  -- whose reading is the task set of its fields
-  pub valid-reading : ValidSetup s → setupReading s ≡ acceptedReading (setupFields s)
-  unfolding setupReading readingBy
-  valid-reading v = rw (setup-accepts .1 v)
+pub new-sound : (s : List ℕ) → Sound (new s)
+unfolding new
+new-sound s = record { tested = setup-tested s; within = λ v. v .fields }
 
 -- The steps of the reader.
-module _ (s : List ℕ) {g : Fields} (e : g ≡ setupFields s) {o : Outcome} (p : o ≡ inOrder (shortTest s ∷ firstTest s ∷ sizeTests g) then lengthTest s) where
-  pub shape-says : o ≡ Accepted → Sized g
-  shape-says q = rw e (sizes-kept (setupFields s) .0 (front-reported s .accepted (then-accepted _ _ (rw e at (sym p ∙ q)) .0) .1 .1))
+pub shape-says : (s : List ℕ) {g : Fields} {o : Outcome} → o ≡ shapeOutcome s g → o ≡ Accepted → Sized g
+shape-says s {g} p q = accepts (decides (shape-tested s g)) .0 (sym p ∙ q) .0 .1 .1
 
-  pub read-answer : {r : Reading} → r ≡ readingBy (o then inOrder (limitTests g)) g → r ≡ setupReading s
-  unfolding setupReading setupOutcome inOrder
-  read-answer h =
-      h
-      ∙ rw (p, e)
-      (ap (λ x. readingBy x (setupFields s)) (then-assoc _ _ _ ∙ sym (inOrder-append (shortTest s ∷ firstTest s ∷ sizeTests (setupFields s)) (lengthTest s ∷ limitTests (setupFields s)))))
+-- each part of an accepted table stands at its place
+pub new-stored : (s : List ℕ) {r : Reading} → r ≡ readingOf (new s) → ReadsSetup s r
+unfolding new setupFields
+new-stored s e = record {
+  form = λ q.
+      let v : ValidSetup s = table-accepts (new-sound s) .0 (sym (read-outcome (new s) e) ∙ q) in
+      rw (read-fields (new s) e q) (fields-form s (v .first) (v .fields .sizes .tasks .1));
+  beyond = λ q. rw (read-fields (new s) e q) (fields-beyond s);
+}
 
--- The reader's answer.
-module _ (s : List ℕ) {r : Reading} (e : r ≡ setupReading s) where
-  -- its outcome is that of the tests, and where that is good it has the task set of the fields
-  pub read-outcome : r .outcome ≡ setupOutcome s
-  unfolding setupReading
-  read-outcome = ap (λ x. x .outcome) e ∙ reading-outcome (setupOutcome s) (setupFields s)
-
-  pub read-tasks : r .outcome ≡ Accepted → r .tasks ≡ taskSetOf (setupFields s)
-  unfolding setupReading
-  read-tasks q = ap (λ x. x .tasks) e ∙ reading-accepted (setupOutcome s) (setupFields s) (sym (ap (λ x. x .outcome) e) ∙ q)
-
-  pub read-fields : r .outcome ≡ Accepted → r .tasks .fields ≡ setupFields s
-  unfolding taskSetOf
-  read-fields q = ap (λ x. x .fields) (read-tasks q)
-
-  pub read-decides : Decides (ValidSetup s) (setupConditions s) (r .outcome)
-  read-decides = rw read-outcome (decides (setup-tested s))
-
-  pub read-reads : Reads r
-  unfolding setupReading
-  read-reads = rw e (reading-promised (setupFields s) (setupOutcome s) (λ q. setup-accepts s .0 q .fields))
-
-  pub read-stored : ReadsSetup s r
-  unfolding setupFields
-  read-stored = record {
-    form = λ q. let v = setup-accepts s .0 (sym read-outcome ∙ q) in rw (read-fields q) (fields-form s (v .first) (v .fields .sizes .tasks .1));
-    beyond = λ q. rw (read-fields q) (fields-beyond s);
-  }
+pub new-read : (s : List ℕ) {g : Fields} {o : Outcome} {r : Reading} → o ≡ shapeOutcome s g → r ≡ readingBy (o then inOrder (limitTests g)) g → g ≡ setupFields s
+    → (r ≡ readingOf (new s)) × (Decided (new s) (r .outcome) × (Reads r × ReadsSetup s r))
+unfolding readingOf new setupOutcome
+new-read s {r = r} p h e =
+    let a : r ≡ readingOf (new s) = read-after (shapeOutcome s) h p e in
+    (a, (read-decided _ a (new-sound s), (read-reads _ a (new-sound s), new-stored s a)))

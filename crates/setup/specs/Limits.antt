@@ -1,4 +1,4 @@
--- The limits of a table in the new form and its refusals as plain statements, and what its reading is promised.
+-- The limits of a table in the new form and its refusals as plain statements, the table as a call is given it, and what its reading is promised.
 use Prim.Native.Nat.{ℕ, _+_, _*_, _<_}
 use mathlib.Core.Path.{_≡_}
 use mathlib.Core.List.{List, [], _∷_, _++_}
@@ -8,7 +8,9 @@ use Rattle.refusal.specs.Conditions.{Condition, only}
 use Rattle.refusal.specs.declared.Outcome.the-variants.{Accepted}
 use Rattle.taskset.specs.Limits.{Within, sizes, chargeAbove, periodOutside, budgetOutside, costAbove, affinityUnfit, multipleAbove}
 use Rattle.taskset.specs.declared.Reading.{Reading}
+use Rattle.taskset.specs.Table.{Table}
 use Rattle.setup.specs.Form.{setupFields, NewForm, Bounded}
+use Rattle.setup.specs.Tests.{setupOutcome}
 
 -- A table within the paper's limits: its first byte is 0, its length exact, and its fields are within theirs.
 pub record ValidSetup (s : List ℕ) : Type 0 where
@@ -32,6 +34,10 @@ setupConditions s =
     tooShort s ∷ firstOther s ∷ sizes (setupFields s)
     ++ otherLength s ∷ chargeAbove (setupFields s) ∷ periodOutside (setupFields s) ∷ budgetOutside (setupFields s) ∷ costAbove (setupFields s)
     ∷ affinityUnfit (setupFields s) ∷ multipleAbove (setupFields s) ∷ []
+
+-- A table in the new form.
+unfoldable pub new : List ℕ → Table
+new s = record { fields = setupFields s; outcome = setupOutcome s; Valid = ValidSetup s; conditions = setupConditions s }
 
 -- What is promised of an accepted reading of these bytes: they are its fields in the new form, and its entries beyond n are 0.
 pub record ReadsSetup (s : List ℕ) (r : Reading) : Type 0 where

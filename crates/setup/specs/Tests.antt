@@ -1,15 +1,14 @@
--- The tests of a table in the new form, in their order, and what reading it gives.
+-- The tests of a table in the new form, in their order.
 use Prim.Native.Nat.{ℕ}
-use mathlib.Core.List.{List, _∷_, _++_}
+use mathlib.Core.List.{List, _∷_}
 use mathlib.Core.Bool.{not}
 use lib.Dec.{ltb, eqb}
 use lib.ListN.{length}
-use Rattle.refusal.specs.Tests.{refuseIf, inOrder}
+use Rattle.refusal.specs.Tests.{_then_, refuseIf, inOrder}
 use Rattle.refusal.specs.declared.Cause.the-variants.{TooShort, Length, FirstByte}
 use Rattle.refusal.specs.declared.Outcome.{Outcome}
 use Rattle.taskset.specs.Tests.{sizeTests, limitTests}
-use Rattle.taskset.specs.Reading.{readingBy}
-use Rattle.taskset.specs.declared.Reading.{Reading}
+use Rattle.taskset.specs.declared.Fields.{Fields}
 use Rattle.setup.specs.Form.{firstByte, taskCount, setupLength, setupFields}
 
 -- number 1: the table is shorter than 4 bytes
@@ -24,10 +23,10 @@ firstTest s = refuseIf (not (eqb (firstByte s) 0)) FirstByte
 abbrev pub lengthTest : List ℕ → Outcome
 lengthTest s = refuseIf (not (eqb (length s) (setupLength (taskCount s)))) Length
 
--- numbers 1 and 17, the sizes, number 4, the limits
-unfoldable pub setupOutcome : List ℕ → Outcome
-setupOutcome s = inOrder (shortTest s ∷ firstTest s ∷ sizeTests (setupFields s) ++ lengthTest s ∷ limitTests (setupFields s))
+-- numbers 1 and 17, the sizes, number 4
+unfoldable pub shapeOutcome : List ℕ → Fields → Outcome
+shapeOutcome s f = inOrder (shortTest s ∷ firstTest s ∷ sizeTests f) then lengthTest s
 
--- the answer for a table in the new form
-unfoldable pub setupReading : List ℕ → Reading
-setupReading s = readingBy (setupOutcome s) (setupFields s)
+-- then the limits
+unfoldable pub setupOutcome : List ℕ → Outcome
+setupOutcome s = shapeOutcome s (setupFields s) then inOrder (limitTests (setupFields s))

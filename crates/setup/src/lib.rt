@@ -1,14 +1,11 @@
 // The new stored form, which holds the charge and the core bytes: its bytes become fields, and these a task set or a refusal.
 ghost use mathlib.Core.Path.{_≡_};
-ghost use mathlib.Core.List.{_∷_};
 ghost use Prim.Native.Nat.{_<_};
-ghost use Rattle.refusal.specs.Tests.{inOrder, _then_};
-ghost use Rattle.refusal.specs.Conditions.{Decides};
-ghost use Rattle.taskset.specs.Tests.{sizeTests};
 ghost use Rattle.taskset.specs.Limits.{Reads};
+ghost use Rattle.taskset.specs.Table.{readingOf, Decided};
 ghost use Rattle.setup.specs.Form.{taskCount, setupFields};
-ghost use Rattle.setup.specs.Tests.{shortTest, firstTest, lengthTest, setupReading};
-ghost use Rattle.setup.specs.Limits.{ValidSetup, setupConditions, ReadsSetup};
+ghost use Rattle.setup.specs.Tests.{shortTest, firstTest, lengthTest, shapeOutcome};
+ghost use Rattle.setup.specs.Limits.{new, ReadsSetup};
 use refusal::Cause;
 use refusal::Outcome;
 use taskset::Fields;
@@ -65,7 +62,7 @@ fn length_test(s: &[u8]) -> Outcome
 
 // Numbers 1 and 17, the sizes of the fields, number 4.
 fn shape_tests(s: &[u8], f: Fields) -> Outcome
-    ensures { λ r. ⌜ r ≡ inOrder (shortTest (now (s .entry)) ∷ firstTest (now (s .entry)) ∷ sizeTests f) then lengthTest (now (s .entry)) ⌝ }
+    ensures { λ r. ⌜ r ≡ shapeOutcome (now (s .entry)) f ⌝ }
 {
     let short = short_test(s);
     let first = first_test(s);
@@ -78,8 +75,8 @@ fn shape_tests(s: &[u8], f: Fields) -> Outcome
 
 // Reads a table in the new form: its task set, or the first cause of refusal.
 pub fn read_setup(table: &[u8]) -> Reading
-    ensures answer { λ r. ⌜ r ≡ setupReading (now (table .entry)) ⌝ }
-    ensures decides { λ r. ⌜ Decides (ValidSetup (now (table .entry))) (setupConditions (now (table .entry))) (r .outcome) ⌝ }
+    ensures answer { λ r. ⌜ r ≡ readingOf (new (now (table .entry))) ⌝ }
+    ensures decides { λ r. ⌜ Decided (new (now (table .entry))) (r .outcome) ⌝ }
     ensures reads { λ r. ⌜ Reads r ⌝ }
     ensures stored { λ r. ⌜ ReadsSetup (now (table .entry)) r ⌝ }
 {

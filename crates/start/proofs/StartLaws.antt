@@ -21,13 +21,13 @@ use Rattle.numbers.proofs.SumLaws.{sumTo-cong}
 use Rattle.affinity.specs.Permitted.{permitted, allowed, everyCore}
 use Rattle.affinity.proofs.PermittedLaws.{allowed-says, every-permits}
 use Rattle.refusal.specs.Tests.{inOrder}
-use Rattle.refusal.specs.Conditions.{Fails, Decides}
+use Rattle.refusal.specs.Conditions.{Fails, Decides, Tested}
 use Rattle.refusal.specs.declared.Cause.{Cause}
 use Rattle.refusal.specs.declared.Cause.the-variants.{Placement, CoreNumber, Overload, NotPermitted}
 use Rattle.refusal.specs.declared.Outcome.{Outcome}
 use Rattle.refusal.specs.declared.Outcome.the-variants.{Accepted, Refused}
-use Rattle.refusal.proofs.TestLaws.{accepted≢refused, then-first, then-refused}
-use Rattle.refusal.proofs.ConditionLaws.{test-only, test-at, _and_, no-more, _also_, Tested, join, join-after, unnamed, decides, accepts}
+use Rattle.refusal.proofs.TestLaws.{accepted≢refused, then-first, then-refused, by-accepted, by-refused, by-both, by-says}
+use Rattle.refusal.proofs.ConditionLaws.{test-only, test-at, _and_, no-more, _also_, join-after, unnamed, decides}
 use Rattle.taskset.specs.declared.TaskSet.{TaskSet}
 use Rattle.taskset.specs.declared.Reading.{Reading}
 use Rattle.taskset.specs.Fields.{affinityAt}
@@ -35,19 +35,20 @@ use Rattle.taskset.specs.Demands.{demandOf}
 use Rattle.taskset.specs.Reading.{taskSetOf}
 use Rattle.taskset.specs.Limits.{Within, Exact}
 use Rattle.taskset.proofs.DemandLaws.{taskSet-exact}
-use Rattle.stored.specs.Form.{fieldsOf, everyAffinity, fieldsAlone}
-use Rattle.stored.specs.Tests.{tableOutcome, readingOf}
-use Rattle.stored.specs.Limits.{tableConditions}
+use Rattle.taskset.specs.Table.{Table, readingOf, Decided, Sound}
+use Rattle.taskset.proofs.TableLaws.{also-sound, table-accepts, read-outcome, read-tasks}
+use Rattle.stored.specs.Form.{fieldsAlone}
+use Rattle.stored.specs.Limits.{alone}
 use Rattle.stored.proofs.FormLaws.{every-affinity}
-use Rattle.stored.proofs.TableLaws.{table-tested, table-tested-alone, alone-sized, read-outcome, read-tasks}
+use Rattle.stored.proofs.TableLaws.{table-tested-alone, alone-sound, alone-sized}
 use Rattle.edf.specs.declared.Slot.{Slot}
 use Rattle.edf.specs.Slots.{emptySlot, slotAt}
 use Rattle.edf.specs.Fresh.{freshSlot, freshSlots}
 use Rattle.edf.specs.Guarantee.{WithinLimits, LoadFits}
 use Rattle.edf.proofs.GuaranteeLaws.{tick-guarantee}
 use Rattle.start.specs.declared.Started.{Started}
-use Rattle.start.specs.Starts.{placedTasks, loadOf, aboveAt, barredAt, placingOutcome, refusedStart, startBy, startOutcome, startOf}
-use Rattle.start.specs.Limits.{Placed, ValidStart, otherPlaces, coreAbove, coreBarred, numberOutside, loadAbove, placing, placingAlone, startConditions, Serves, Starts}
+use Rattle.start.specs.Starts.{placedTasks, loadOf, aboveAt, barredAt, placingOutcome, refusedStart, startFor, startBy, startOf}
+use Rattle.start.specs.Limits.{Placed, otherPlaces, coreAbove, coreBarred, numberOutside, loadAbove, placing, placingAlone, placed, Serves, Starts}
 
 -- a placement that uses a core that a byte does not permit
 barred-exactly : (byte choice : ℕ) → (not (allowed byte choice) ≡ true) ↔ ((1 ≤ choice) × (permitted byte choice ≡ false))
@@ -84,26 +85,24 @@ module _ (t : TaskSet) (placement : List ℕ) (core : ℕ) where
   }
 
 -- the answer's outcome is that of the tests
-module _ (table : List ℕ) (charge : ℕ) (affinity placement : List ℕ) (core : ℕ) where
+module _ {t : Table} (sound : Sound t) (placement : List ℕ) (core : ℕ) where
   abbrev tasks : TaskSet
-  tasks = taskSetOf (fieldsOf table charge affinity)
+  tasks = taskSetOf (t .fields)
 
-  start-tested : Tested (ValidStart table charge affinity placement core) (startConditions table charge affinity placement core) (startOutcome table charge affinity placement core)
-  unfolding startOutcome
-  start-tested = join (table-tested table charge affinity) (placing-tested tasks placement core)
+  placed-sound : Sound (placed t placement core)
+  placed-sound = also-sound sound (placing-tested tasks placement core)
 
-  by-outcome : (o : Outcome) → startBy o (placedTasks (fieldsOf table charge affinity) placement) core .outcome ≡ o
-  unfolding startBy refusedStart
-  by-outcome Accepted = refl
-  by-outcome (Refused c) = refl
+  by-outcome : (o : Outcome) → startBy placement core o (t .fields) .outcome ≡ o
+  unfolding startBy startFor refusedStart
+  by-outcome o = by-says refusedStart (startFor placement core) (λ r. r .outcome) (λ c. refl) (λ f. refl) o (t .fields)
 
-  pub start-decides : {r : Started} → r ≡ startOf table charge affinity placement core → Decides (ValidStart table charge affinity placement core) (startConditions table charge affinity placement core) (r .outcome)
+  pub start-decided : {r : Started} → r ≡ startOf t placement core → Decided (placed t placement core) (r .outcome)
   unfolding startOf
-  start-decides e = rw (e, by-outcome) (decides start-tested)
+  start-decided e = rw (e, by-outcome) (decides (placed-sound .tested))
 
   -- the limits that the tick guarantee rests on
-  module _ (w : Within (fieldsOf table charge affinity)) (x : Exact (taskSetOf (fieldsOf table charge affinity))) where
-    within-limits : WithinLimits (tasks .hyperperiod) (entry (tasks .demands)) (placedTasks (fieldsOf table charge affinity) placement)
+  module _ (w : Within (t .fields)) (x : Exact (taskSetOf (t .fields))) where
+    within-limits : WithinLimits (tasks .hyperperiod) (entry (tasks .demands)) (placedTasks (t .fields) placement)
     unfolding taskSetOf
     within-limits = record {
       tasks-most = w .sizes .tasks .1;
@@ -116,83 +115,74 @@ module _ (table : List ℕ) (charge : ℕ) (affinity placement : List ℕ) (core
       demand-exact = λ k h. x .demand k h;
     }
 
-    load-fits : Placed tasks placement core → LoadFits (tasks .hyperperiod) (entry (tasks .demands)) (placedTasks (fieldsOf table charge affinity) placement) core
+    load-fits : Placed tasks placement core → LoadFits (tasks .hyperperiod) (entry (tasks .demands)) (placedTasks (t .fields) placement) core
     unfolding taskSetOf loadOf share
     load-fits p =
-        let n = fieldsOf table charge affinity .n in
+        let n = t .fields .n in
         let ws = take n (tasks .demands) in
-        let long : length ws ≡ n = length-take-le n (tasks .demands) (rw (length-row 0 n (demandOf (fieldsOf table charge affinity))) (w .sizes .tasks .1)) in
+        let long : length ws ≡ n = length-take-le n (tasks .demands) (rw (length-row 0 n (demandOf (t .fields))) (w .sizes .tasks .1)) in
         let s : demandOn core ws placement ≡ sumTo (share core ws placement) n = rw long at (demand-listed core ws placement (p .exact ∙ sym long)) in
         let same : sumTo (share core ws placement) n ≡ sumTo (λ k. cond (eqb (entry placement k) core) (entry (tasks .demands) k) 0) n =
         sumTo-cong _ _ n (λ k h. ap (λ (d : ℕ). cond (eqb (entry placement k) core) d 0) (getD-take n (tasks .demands) k 0 h)) in
         rw (← same, ← s) (p .fits)
 
   -- the slots of an accepted core
-  module _ (few : fieldsOf table charge affinity .n ≤ 16) {slots : List Slot} (e : slots ≡ freshSlots (placedTasks (fieldsOf table charge affinity) placement) core) where
+  module _ (few : t .fields .n ≤ 16) {slots : List Slot} (e : slots ≡ freshSlots (placedTasks (t .fields) placement) core) where
     abbrev slotOf : ℕ → Slot
-    slotOf = freshSlot (placedTasks (fieldsOf table charge affinity) placement) core
+    slotOf = freshSlot (placedTasks (t .fields) placement) core
 
-    own-slot : (k : ℕ) → k < fieldsOf table charge affinity .n → slotAt slots k ≡ slotOf k
+    own-slot : (k : ℕ) → k < t .fields .n → slotAt slots k ≡ slotOf k
     unfolding freshSlots
-    own-slot k h = rw e (getD-row emptySlot (fieldsOf table charge affinity .n) slotOf k h few)
+    own-slot k h = rw e (getD-row emptySlot (t .fields .n) slotOf k h few)
 
-    other-slot : (k : ℕ) → k < 16 → (k < fieldsOf table charge affinity .n → entry placement k ≢ core) → slotAt slots k ≡ emptySlot
+    other-slot : (k : ℕ) → k < 16 → (k < t .fields .n → entry placement k ≢ core) → slotAt slots k ≡ emptySlot
     unfolding freshSlot freshSlots
     other-slot k b n =
-        by-cases (decLt k (fieldsOf table charge affinity .n))
+        by-cases (decLt k (t .fields .n))
         (λ h. own-slot k h ∙ rw (ne-eqb (entry placement k) core (n h)))
-        (λ h. rw e (getD-row-above emptySlot (fieldsOf table charge affinity .n) slotOf k (omega arith) b))
+        (λ h. rw e (getD-row-above emptySlot (t .fields .n) slotOf k (omega arith) b))
 
-    on-slot : (k : ℕ) → k < fieldsOf table charge affinity .n → entry placement k ≡ core
-        → slotAt slots k ≡ record { period = entry (fieldsOf table charge affinity .periods) k; budget = entry (fieldsOf table charge affinity .budgets) k; until = 0; remaining = 0 }
+    on-slot : (k : ℕ) → k < t .fields .n → entry placement k ≡ core
+        → slotAt slots k ≡ record { period = entry (t .fields .periods) k; budget = entry (t .fields .budgets) k; until = 0; remaining = 0 }
     unfolding freshSlot
     on-slot k h q = own-slot k h ∙ rw (eq-eqb (entry placement k) core q)
 
   -- an accepted core serves
-  serves : ValidStart table charge affinity placement core
-      → Serves table charge affinity placement core (record { slots = freshSlots (placedTasks (fieldsOf table charge affinity) placement) core; charge = charge })
-  unfolding fieldsOf
+  serves : placed t placement core .Valid → Serves t placement core (record { slots = freshSlots (placedTasks (t .fields) placement) core; charge = t .fields .charge })
   serves v =
-      let w : Within (fieldsOf table charge affinity) = v .0 .fields in
+      let w : Within (t .fields) = sound .within (v .0) in
       let x : Exact tasks = taskSet-exact w in
       record {
         carries = refl;
         own = on-slot (w .sizes .tasks .1) refl;
         others = other-slot (w .sizes .tasks .1) refl;
-        ticks = tick-guarantee (tasks .hyperperiod) (entry (tasks .demands)) (placedTasks (fieldsOf table charge affinity) placement) core
-            (within-limits w x) (load-fits w x (v .1)) (λ k h _. w .periods k h .0) charge refl _ refl;
+        ticks = tick-guarantee (tasks .hyperperiod) (entry (tasks .demands)) (placedTasks (t .fields) placement) core
+            (within-limits w x) (load-fits w x (v .1)) (λ k h _. w .periods k h .0) (t .fields .charge) refl _ refl;
       }
 
-  -- the promise, by the outcome of the tests
-  promised : (o : Outcome) → (o ≡ Accepted → ValidStart table charge affinity placement core) → Starts table charge affinity placement core (startBy o (placedTasks (fieldsOf table charge affinity) placement) core)
-  unfolding startBy refusedStart fieldsOf
-  promised Accepted v = record { accepted = λ e. serves (v refl); refused = λ n. absurd (n refl) }
-  promised (Refused c) v = record { accepted = λ e. absurd (accepted≢refused e refl); refused = λ n. refl }
-
-  pub start-promised : {r : Started} → r ≡ startOf table charge affinity placement core → Starts table charge affinity placement core r
-  unfolding startOf
-  start-promised e = rw e (promised (startOutcome table charge affinity placement core) (accepts (decides start-tested) .0))
+  pub start-promised : {r : Started} → r ≡ startOf t placement core → Starts t placement core r
+  unfolding startOf startBy startFor refusedStart
+  start-promised e =
+      rw e (by-both refusedStart (startFor placement core) (Starts t placement core) (placed t placement core .outcome) (t .fields)
+      (λ c q. record { accepted = λ a. absurd (accepted≢refused a refl); refused = λ n. refl })
+      (λ q. record { accepted = λ a. serves (table-accepts placed-sound .0 q); refused = λ n. absurd (n refl) }))
 
   -- all that is said of the answer
-  pub start-all : {r : Started} → r ≡ startOf table charge affinity placement core
-      → (r ≡ startOf table charge affinity placement core)
-      × (Decides (ValidStart table charge affinity placement core) (startConditions table charge affinity placement core) (r .outcome)
-      × Starts table charge affinity placement core r)
-  start-all e = (e, (start-decides e, start-promised e))
+  pub start-all : {r : Started} → r ≡ startOf t placement core → (r ≡ startOf t placement core) × (Decided (placed t placement core) (r .outcome) × Starts t placement core r)
+  start-all e = (e, (start-decided e, start-promised e))
 
-  -- The steps of the program.
-  module _ {reading : Reading} (e : reading ≡ readingOf table charge affinity) where
-    pub start-refused : {c : Cause} {r : Started} → reading .outcome ≡ Refused c → r ≡ refusedStart c → r ≡ startOf table charge affinity placement core
-    unfolding startOf startOutcome startBy
-    start-refused {c} q h = h ∙ rw (then-refused (tableOutcome table charge affinity) (placingOutcome tasks placement core) c (sym (read-outcome table charge affinity e) ∙ q)) refl
+-- The steps of the program.
+module _ (t : Table) (placement : List ℕ) (core : ℕ) {reading : Reading} (e : reading ≡ readingOf t) where
+  pub start-refused : {c : Cause} {r : Started} → reading .outcome ≡ Refused c → r ≡ refusedStart c → r ≡ startOf t placement core
+  unfolding startOf startBy
+  start-refused q h = h ∙ sym (by-refused refusedStart (startFor placement core) (t .fields) (then-refused _ _ _ (sym (read-outcome t e) ∙ q)))
 
-    pub start-checked : {r : Started} → reading .outcome ≡ Accepted
-        → r ≡ startBy (placingOutcome (reading .tasks) placement core) (placedTasks (reading .tasks .fields) placement) core
-        → r ≡ startOf table charge affinity placement core
-    unfolding startOf startOutcome taskSetOf
-    start-checked a h =
-        let same : reading .tasks ≡ tasks = read-tasks table charge affinity e a in
-        rw (then-first (tableOutcome table charge affinity) (placingOutcome tasks placement core) (sym (read-outcome table charge affinity e) ∙ a)) (rw same at h)
+  pub start-checked : {r : Started} → reading .outcome ≡ Accepted → r ≡ startBy placement core (placingOutcome (reading .tasks) placement core) (reading .tasks .fields)
+      → r ≡ startOf t placement core
+  unfolding startOf taskSetOf
+  start-checked a h =
+      let same : reading .tasks ≡ taskSetOf (t .fields) = read-tasks t e a in
+      rw (then-first (t .outcome) (placingOutcome (taskSetOf (t .fields)) placement core) (sym (read-outcome t e) ∙ a)) (rw same at h)
 
 -- The byte of every core permits each, so where each task has it number 16 holds only where number 9 does.
 module _ (t : TaskSet) (placement : List ℕ) where
@@ -210,22 +200,24 @@ module _ (t : TaskSet) (placement : List ℕ) where
 
 -- With charge 0 and every core permitted the table has numbers 1 to 7, and the placing numbers 9, 10 and 11.
 pub start-alone : (table placement : List ℕ) (core : ℕ)
-    → Decides (ValidStart table 0 (everyAffinity table) placement core) (tableConditions table ++ placingAlone (taskSetOf (fieldsAlone table)) placement core)
-    (startOf table 0 (everyAffinity table) placement core .outcome)
-unfolding startOf startOutcome taskSetOf
+    → Decides (placed (alone table) placement core .Valid) (alone table .conditions ++ placingAlone (taskSetOf (alone table .fields)) placement core)
+    (startOf (alone table) placement core .outcome)
+unfolding startOf taskSetOf alone
 start-alone table placement core =
-    rw (by-outcome table 0 (everyAffinity table) placement core)
+    rw (by-outcome (alone-sound table) placement core _)
     (decides (join-after (table-tested-alone table) (λ n.
     let z = alone-sized table n in
     placing-tested-alone (taskSetOf (fieldsAlone table)) placement core (z .cores .1) (every-affinity table 0 (z .tasks .1)))))
 
 -- The answer for a checked task set, by the outcome of its tests.
 module _ (t : TaskSet) (placement : List ℕ) (core : ℕ) {o : Outcome} (p : o ≡ placingOutcome t placement core) where
-  pub start-no : {c : Cause} {r : Started} → o ≡ Refused c → r ≡ refusedStart c → r ≡ startBy (placingOutcome t placement core) (placedTasks (t .fields) placement) core
+  pub start-no : {c : Cause} {r : Started} → o ≡ Refused c → r ≡ refusedStart c → r ≡ startBy placement core (placingOutcome t placement core) (t .fields)
   unfolding startBy
-  start-no q e = rw (← p, q) e
+  start-no q e = e ∙ sym (by-refused refusedStart (startFor placement core) (t .fields) (sym p ∙ q))
 
   pub start-yes : {slots : List Slot} → o ≡ Accepted → slots ≡ freshSlots (placedTasks (t .fields) placement) core
-      → record { outcome = Accepted; core = record { slots = slots; charge = t .fields .charge } } ≡ startBy (placingOutcome t placement core) (placedTasks (t .fields) placement) core
-  unfolding startBy
-  start-yes q e = rw (← p, q, e)
+      → record { outcome = Accepted; core = record { slots = slots; charge = t .fields .charge } } ≡ startBy placement core (placingOutcome t placement core) (t .fields)
+  unfolding startBy startFor
+  start-yes q e =
+      ap (λ x. record { outcome = Accepted; core = record { slots = x; charge = t .fields .charge } }) e
+      ∙ sym (by-accepted refusedStart (startFor placement core) (t .fields) (sym p ∙ q))

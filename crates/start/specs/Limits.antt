@@ -1,7 +1,7 @@
 -- The limits of a fresh core and its refusals as plain statements, and what an accepted and a refused one are promised.
 use Prim.Native.Nat.{ℕ, _≤_, _<_}
 use mathlib.Core.Path.{_≡_}
-use mathlib.Core.List.{List, [], _∷_, _++_}
+use mathlib.Core.List.{List, [], _∷_}
 use mathlib.Core.Bool.{true, false}
 use mathlib.Core.Logic.{_≢_}
 use lib.ListN.{length, replicate}
@@ -14,13 +14,12 @@ use Rattle.refusal.specs.declared.Outcome.the-variants.{Accepted}
 use Rattle.taskset.specs.declared.TaskSet.{TaskSet}
 use Rattle.taskset.specs.Fields.{periodAt, budgetAt, affinityAt}
 use Rattle.taskset.specs.Reading.{taskSetOf}
-use Rattle.stored.specs.Form.{taskCount, fieldsOf}
-use Rattle.stored.specs.Limits.{Valid, conditions}
+use Rattle.taskset.specs.Table.{Table, also}
 use Rattle.edf.specs.Slots.{slotAt}
 use Rattle.edf.specs.Guarantee.{TickGuarantee}
 use Rattle.runner.specs.declared.Core.{Core}
 use Rattle.start.specs.declared.Started.{Started}
-use Rattle.start.specs.Starts.{placedTasks, loadOf}
+use Rattle.start.specs.Starts.{placedTasks, loadOf, placingOutcome}
 
 -- A placement, a core and its load within the paper's limits.
 pub record Placed (t : TaskSet) (placement : List ℕ) (core : ℕ) : Type 0 where
@@ -29,10 +28,6 @@ pub record Placed (t : TaskSet) (placement : List ℕ) (core : ℕ) : Type 0 whe
   pub permitted : (k : ℕ) → k < t .fields .n → 1 ≤ entry placement k → permitted (affinityAt (t .fields) k) (entry placement k) ≡ true
   pub number : (1 ≤ core) × (core ≤ t .fields .m)
   pub fits : loadOf t placement core ≤ t .hyperperiod
-
--- A fresh core is valid if its table with the charge and the core bytes is, and the placement, the core number and the load are within their limits.
-abbrev pub ValidStart : List ℕ → ℕ → List ℕ → List ℕ → ℕ → Type 0
-ValidStart table charge affinity placement core = Valid table charge affinity × Placed (taskSetOf (fieldsOf table charge affinity)) placement core
 
 -- The refusals of the placing: number 9 of its length, then of its entries,
 abbrev pub otherPlaces : TaskSet → List ℕ → Condition
@@ -61,25 +56,26 @@ placing t placement core = otherPlaces t placement ∷ coreAbove t placement ∷
 abbrev pub placingAlone : TaskSet → List ℕ → ℕ → List Condition
 placingAlone t placement core = otherPlaces t placement ∷ coreAbove t placement ∷ numberOutside t core ∷ loadAbove t placement core ∷ []
 
--- The refusals of the table and of what is given beside it come first.
-abbrev pub startConditions : List ℕ → ℕ → List ℕ → List ℕ → ℕ → List Condition
-startConditions table charge affinity placement core = conditions table charge affinity ++ placing (taskSetOf (fieldsOf table charge affinity)) placement core
+-- What a fresh core is given: a table, whose tests come first, a placement and a core number.
+abbrev pub placed : Table → List ℕ → ℕ → Table
+placed t placement core =
+    also t (placingOutcome (taskSetOf (t .fields)) placement core) (Placed (taskSetOf (t .fields)) placement core) (placing (taskSetOf (t .fields)) placement core)
 
 -- What an accepted core is promised of the record r that is handed back.
-pub record Serves (table : List ℕ) (charge : ℕ) (affinity placement : List ℕ) (core : ℕ) (r : Core) : Type 0 where
+pub record Serves (t : Table) (placement : List ℕ) (core : ℕ) (r : Core) : Type 0 where
   -- It carries the charge.
-  pub carries : r .charge ≡ charge
+  pub carries : r .charge ≡ t .fields .charge
   -- A task on the core begins with 0 ticks until its release and 0 owed;
-  pub own : (k : ℕ) → k < taskCount table → entry placement k ≡ core
-      → slotAt (r .slots) k ≡ record { period = periodAt (fieldsOf table charge affinity) k; budget = budgetAt (fieldsOf table charge affinity) k; until = 0; remaining = 0 }
+  pub own : (k : ℕ) → k < t .fields .n → entry placement k ≡ core
+      → slotAt (r .slots) k ≡ record { period = periodAt (t .fields) k; budget = budgetAt (t .fields) k; until = 0; remaining = 0 }
   -- every other slot is all zeros.
-  pub others : (k : ℕ) → k < 16 → (k < taskCount table → entry placement k ≢ core)
+  pub others : (k : ℕ) → k < 16 → (k < t .fields .n → entry placement k ≢ core)
       → slotAt (r .slots) k ≡ record { period = 0; budget = 0; until = 0; remaining = 0 }
   -- Every list of ticks from it has the tick guarantee.
-  pub ticks : (ticks : List (List ℕ)) → TickGuarantee (placedTasks (fieldsOf table charge affinity) placement) core (r .charge) (r .slots) ticks
+  pub ticks : (ticks : List (List ℕ)) → TickGuarantee (placedTasks (t .fields) placement) core (r .charge) (r .slots) ticks
 
 -- What is promised of the answer: an accepted core serves, a refused one is a record of zeros, its charge too.
-pub record Starts (table : List ℕ) (charge : ℕ) (affinity placement : List ℕ) (core : ℕ) (r : Started) : Type 0 where
-  pub accepted : r .outcome ≡ Accepted → Serves table charge affinity placement core (r .core)
+pub record Starts (t : Table) (placement : List ℕ) (core : ℕ) (r : Started) : Type 0 where
+  pub accepted : r .outcome ≡ Accepted → Serves t placement core (r .core)
   pub refused : numberIn (r .outcome) ≢ 0
       → r .core ≡ record { slots = replicate 16 (record { period = 0; budget = 0; until = 0; remaining = 0 }); charge = 0 }

@@ -9,7 +9,7 @@ use Rattle.numbers.specs.First.{first}
 use Rattle.numbers.specs.Loads.{demandOn}
 use Rattle.numbers.specs.Rows.{entry}
 use Rattle.affinity.specs.Permitted.{allowed}
-use Rattle.refusal.specs.Tests.{_then_, refuseIf, refuseAt, inOrder}
+use Rattle.refusal.specs.Tests.{_then_, refuseIf, refuseAt, inOrder, byOutcome}
 use Rattle.refusal.specs.declared.Cause.{Cause}
 use Rattle.refusal.specs.declared.Cause.the-variants.{Placement, CoreNumber, Overload, NotPermitted}
 use Rattle.refusal.specs.declared.Outcome.{Outcome}
@@ -18,8 +18,7 @@ use Rattle.taskset.specs.declared.Fields.{Fields}
 use Rattle.taskset.specs.declared.TaskSet.{TaskSet}
 use Rattle.taskset.specs.Fields.{affinityAt}
 use Rattle.taskset.specs.Reading.{taskSetOf}
-use Rattle.stored.specs.Form.{fieldsOf}
-use Rattle.stored.specs.Tests.{tableOutcome}
+use Rattle.taskset.specs.Table.{Table}
 use Rattle.edf.specs.Slots.{emptySlot}
 use Rattle.edf.specs.Fresh.{Tasks, freshSlots}
 use Rattle.start.specs.declared.Started.{Started}
@@ -68,21 +67,18 @@ placingTests t placement core =
 unfoldable pub refusedStart : Cause → Started
 refusedStart cause = record { outcome = Refused cause; core = record { slots = replicate 16 emptySlot; charge = 0 } }
 
--- the answer by the outcome of the tests: an accepted record carries the charge, that of an empty core too
-unfoldable pub startBy : Outcome → Tasks → ℕ → Started
-startBy (Refused cause) tasks core = refusedStart cause
-startBy Accepted tasks core = record { outcome = Accepted; core = record { slots = freshSlots tasks core; charge = tasks .charge } }
+-- the answer for fields, a placement and a core number that are accepted: the record carries the charge, that of an empty core too
+unfoldable pub startFor : List ℕ → ℕ → Fields → Started
+startFor placement core f = record { outcome = Accepted; core = record { slots = freshSlots (placedTasks f placement) core; charge = f .charge } }
+
+-- the answer by the outcome of the tests and by the fields
+unfoldable pub startBy : List ℕ → ℕ → Outcome → Fields → Started
+startBy placement core = byOutcome refusedStart (startFor placement core)
 
 -- the outcome of the tests of a checked task set, a placement and a core number
 unfoldable pub placingOutcome : TaskSet → List ℕ → ℕ → Outcome
 placingOutcome t placement core = inOrder (placingTests t placement core)
 
--- the tests of the table, and of the charge and core bytes beside it, come first
-unfoldable pub startOutcome : List ℕ → ℕ → List ℕ → List ℕ → ℕ → Outcome
-startOutcome table charge affinity placement core =
-    tableOutcome table charge affinity then placingOutcome (taskSetOf (fieldsOf table charge affinity)) placement core
-
--- the answer for a table, the charge and core bytes beside it, a placement and a core number
-unfoldable pub startOf : List ℕ → ℕ → List ℕ → List ℕ → ℕ → Started
-startOf table charge affinity placement core =
-    startBy (startOutcome table charge affinity placement core) (placedTasks (fieldsOf table charge affinity) placement) core
+-- the answer for a table, a placement and a core number: the table's tests come first
+unfoldable pub startOf : Table → List ℕ → ℕ → Started
+startOf t placement core = startBy placement core (t .outcome then placingOutcome (taskSetOf (t .fields)) placement core) (t .fields)

@@ -6,10 +6,11 @@ ghost use lib.Dec.{eqb, ltb};
 ghost use lib.ListN.{length, getD};
 ghost use Rattle.numbers.specs.First.{first};
 ghost use Rattle.edf.specs.Fresh.{slotFor, freshSlots};
-ghost use Rattle.refusal.specs.Conditions.{Decides};
 ghost use Rattle.taskset.specs.Limits.{Checked};
+ghost use Rattle.taskset.specs.Table.{Decided};
+ghost use Rattle.stored.specs.Limits.{beside};
 ghost use Rattle.start.specs.Starts.{placedTasks, loadOf, placesTest, aboveAt, entriesTest, barredAt, permittedTest, coreTest, loadTest, placingOutcome, refusedStart, startBy, startOf};
-ghost use Rattle.start.specs.Limits.{ValidStart, startConditions, Starts};
+ghost use Rattle.start.specs.Limits.{placed, Starts};
 use edf::Slot;
 use refusal::Cause;
 use refusal::Outcome;
@@ -204,7 +205,7 @@ fn refused(cause: Cause) -> Started
 // The fresh record of a checked task set, or the first cause of refusal.
 pub fn start(t: TaskSet, placement: &[u8], core: u8) -> Started
     requires { ⌜ Checked t ⌝ }
-    ensures { λ r. ⌜ r ≡ startBy (placingOutcome t (now (placement .entry)) core) (placedTasks (t .fields) (now (placement .entry))) core ⌝ }
+    ensures { λ r. ⌜ r ≡ startBy (now (placement .entry)) core (placingOutcome t (now (placement .entry)) core) (t .fields) ⌝ }
 {
     let outcome = placing_tests(t, placement, core);
     match outcome {
@@ -227,9 +228,9 @@ pub fn start(t: TaskSet, placement: &[u8], core: u8) -> Started
 // The record that core `number` of a stored table starts from under a placement, on a board with this charge and with these core
 // bytes, or the first cause of refusal.
 pub fn fresh(table: &[u8], charge: u32, affinity: &[u8], placement: &[u8], number: u8) -> Started
-    ensures answer { λ r. ⌜ r ≡ startOf (now (table .entry)) charge (now (affinity .entry)) (now (placement .entry)) number ⌝ }
-    ensures decides { λ r. ⌜ Decides (ValidStart (now (table .entry)) charge (now (affinity .entry)) (now (placement .entry)) number) (startConditions (now (table .entry)) charge (now (affinity .entry)) (now (placement .entry)) number) (r .outcome) ⌝ }
-    ensures starts { λ r. ⌜ Starts (now (table .entry)) charge (now (affinity .entry)) (now (placement .entry)) number r ⌝ }
+    ensures answer { λ r. ⌜ r ≡ startOf (beside (now (table .entry)) charge (now (affinity .entry))) (now (placement .entry)) number ⌝ }
+    ensures decides { λ r. ⌜ Decided (placed (beside (now (table .entry)) charge (now (affinity .entry))) (now (placement .entry)) number) (r .outcome) ⌝ }
+    ensures starts { λ r. ⌜ Starts (beside (now (table .entry)) charge (now (affinity .entry))) (now (placement .entry)) number r ⌝ }
 {
     let reading = stored::read_beside(table, charge, affinity);
     let outcome = reading.outcome;

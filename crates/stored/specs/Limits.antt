@@ -1,4 +1,4 @@
--- The limits of a stored table and its refusals as plain statements.
+-- The limits of a stored table and its refusals as plain statements, and the table as a call is given it.
 use Prim.Native.Nat.{ℕ, _+_, _*_, _<_}
 use mathlib.Core.Path.{_≡_}
 use mathlib.Core.List.{List, [], _∷_, _++_}
@@ -6,7 +6,9 @@ use mathlib.Core.Logic.{_≢_}
 use lib.ListN.{length}
 use Rattle.refusal.specs.Conditions.{Condition, only}
 use Rattle.taskset.specs.Limits.{Within, sizes, periodOutside, budgetOutside, multipleAbove, limits}
-use Rattle.stored.specs.Form.{taskCount, fieldsOf, fieldsAlone}
+use Rattle.taskset.specs.Table.{Table}
+use Rattle.stored.specs.Form.{taskCount, fieldsOf, everyAffinity, fieldsAlone}
+use Rattle.stored.specs.Tests.{tableOutcome}
 
 -- A table, with the charge and the core bytes beside it, within the paper's limits: the exact length, and fields within theirs.
 pub record Valid (s : List ℕ) (charge : ℕ) (affinity : List ℕ) : Type 0 where
@@ -28,3 +30,21 @@ conditions s charge affinity = tooShort s ∷ sizes (fieldsOf s charge affinity)
 abbrev pub tableConditions : List ℕ → List Condition
 tableConditions s =
     tooShort s ∷ sizes (fieldsAlone s) ++ otherLength s ∷ periodOutside (fieldsAlone s) ∷ budgetOutside (fieldsAlone s) ∷ multipleAbove (fieldsAlone s) ∷ []
+
+-- A stored table with the charge and the core bytes that are given beside it,
+unfoldable pub beside : List ℕ → ℕ → List ℕ → Table
+beside s charge affinity = record {
+  fields = fieldsOf s charge affinity;
+  outcome = tableOutcome s charge affinity;
+  Valid = Valid s charge affinity;
+  conditions = conditions s charge affinity;
+}
+
+-- and one that is read by itself, with charge 0 and every core permitted: of its numbers 13, 14 and 15 need not be named.
+unfoldable pub alone : List ℕ → Table
+alone s = record {
+  fields = fieldsAlone s;
+  outcome = tableOutcome s 0 (everyAffinity s);
+  Valid = Valid s 0 (everyAffinity s);
+  conditions = tableConditions s;
+}

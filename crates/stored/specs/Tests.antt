@@ -1,15 +1,14 @@
--- The tests of a stored table, and of the charge and core bytes beside it, in their order, and what reading it gives.
+-- The tests of a stored table, and of the charge and core bytes beside it, in their order.
 use Prim.Native.Nat.{ℕ, _+_, _*_}
-use mathlib.Core.List.{List, _∷_, _++_}
+use mathlib.Core.List.{List, _∷_}
 use mathlib.Core.Bool.{not}
 use lib.Dec.{ltb, eqb}
 use lib.ListN.{length}
-use Rattle.refusal.specs.Tests.{refuseIf, inOrder}
+use Rattle.refusal.specs.Tests.{_then_, refuseIf, inOrder}
 use Rattle.refusal.specs.declared.Cause.the-variants.{TooShort, Length}
 use Rattle.refusal.specs.declared.Outcome.{Outcome}
 use Rattle.taskset.specs.Tests.{sizeTests, limitTests}
-use Rattle.taskset.specs.Reading.{readingBy}
-use Rattle.taskset.specs.declared.Reading.{Reading}
+use Rattle.taskset.specs.declared.Fields.{Fields}
 use Rattle.stored.specs.Form.{taskCount, fieldsOf}
 
 -- number 1: the table is shorter than 2 bytes
@@ -20,11 +19,10 @@ shortTest s = refuseIf (ltb (length s) 2) TooShort
 abbrev pub lengthTest : List ℕ → Outcome
 lengthTest s = refuseIf (not (eqb (length s) (2 + 8 * taskCount s))) Length
 
--- number 1, the sizes, number 4, the limits
-unfoldable pub tableOutcome : List ℕ → ℕ → List ℕ → Outcome
-tableOutcome s charge affinity =
-    inOrder (shortTest s ∷ sizeTests (fieldsOf s charge affinity) ++ lengthTest s ∷ limitTests (fieldsOf s charge affinity))
+-- number 1, the sizes, number 4
+unfoldable pub shapeOutcome : List ℕ → Fields → Outcome
+shapeOutcome s f = inOrder (shortTest s ∷ sizeTests f) then lengthTest s
 
--- the answer for a table, a charge and a row of core bytes
-unfoldable pub readingOf : List ℕ → ℕ → List ℕ → Reading
-readingOf s charge affinity = readingBy (tableOutcome s charge affinity) (fieldsOf s charge affinity)
+-- then the limits
+unfoldable pub tableOutcome : List ℕ → ℕ → List ℕ → Outcome
+tableOutcome s charge affinity = shapeOutcome s (fieldsOf s charge affinity) then inOrder (limitTests (fieldsOf s charge affinity))

@@ -3,14 +3,11 @@ ghost use mathlib.Core.Path.{_≡_};
 ghost use Prim.Native.Nat.{_<_};
 ghost use lib.ListN.{replicate};
 ghost use Rattle.numbers.specs.Rows.{row, entry};
-ghost use Rattle.refusal.specs.Tests.{inOrder, _then_};
-ghost use Rattle.refusal.specs.Conditions.{Decides};
-ghost use Rattle.taskset.specs.Tests.{sizeTests};
 ghost use Rattle.taskset.specs.Limits.{Reads};
-ghost use mathlib.Core.List.{_∷_};
-ghost use Rattle.stored.specs.Form.{taskCount, coreCount, fieldsWith, everyAffinity};
-ghost use Rattle.stored.specs.Tests.{shortTest, lengthTest, readingOf};
-ghost use Rattle.stored.specs.Limits.{Valid, conditions, tableConditions};
+ghost use Rattle.taskset.specs.Table.{readingOf, Decided};
+ghost use Rattle.stored.specs.Form.{taskCount, coreCount, fieldsWith};
+ghost use Rattle.stored.specs.Tests.{shortTest, lengthTest, shapeOutcome};
+ghost use Rattle.stored.specs.Limits.{beside, alone};
 use refusal::Cause;
 use refusal::Outcome;
 use taskset::Fields;
@@ -80,7 +77,7 @@ fn length_test(s: &[u8]) -> Outcome
 
 // Number 1, the sizes of the fields, number 4.
 fn shape_tests(s: &[u8], f: Fields) -> Outcome
-    ensures { λ r. ⌜ r ≡ inOrder (shortTest (now (s .entry)) ∷ sizeTests f) then lengthTest (now (s .entry)) ⌝ }
+    ensures { λ r. ⌜ r ≡ shapeOutcome (now (s .entry)) f ⌝ }
 {
     let short = short_test(s);
     let sizes = taskset::size_tests(f);
@@ -92,8 +89,8 @@ fn shape_tests(s: &[u8], f: Fields) -> Outcome
 // Reads a stored table with what is given beside it: the board's charge, and a core byte for each task. Its task set, or the first
 // cause of refusal.
 pub fn read_beside(table: &[u8], charge: u32, affinity: &[u8]) -> Reading
-    ensures answer { λ r. ⌜ r ≡ readingOf (now (table .entry)) charge (now (affinity .entry)) ⌝ }
-    ensures decides { λ r. ⌜ Decides (Valid (now (table .entry)) charge (now (affinity .entry))) (conditions (now (table .entry)) charge (now (affinity .entry))) (r .outcome) ⌝ }
+    ensures answer { λ r. ⌜ r ≡ readingOf (beside (now (table .entry)) charge (now (affinity .entry))) ⌝ }
+    ensures decides { λ r. ⌜ Decided (beside (now (table .entry)) charge (now (affinity .entry))) (r .outcome) ⌝ }
     ensures reads { λ r. ⌜ Reads r ⌝ }
 {
     let row = wire::bytes(affinity, 0, task_count(table));
@@ -104,8 +101,8 @@ pub fn read_beside(table: &[u8], charge: u32, affinity: &[u8]) -> Reading
 
 // Reads a stored table by itself, with charge 0 and every core permitted: its task set, or the first cause of refusal.
 pub fn read_table(table: &[u8]) -> Reading
-    ensures answer { λ r. ⌜ r ≡ readingOf (now (table .entry)) 0 (everyAffinity (now (table .entry))) ⌝ }
-    ensures decides { λ r. ⌜ Decides (Valid (now (table .entry)) 0 (everyAffinity (now (table .entry)))) (tableConditions (now (table .entry))) (r .outcome) ⌝ }
+    ensures answer { λ r. ⌜ r ≡ readingOf (alone (now (table .entry))) ⌝ }
+    ensures decides { λ r. ⌜ Decided (alone (now (table .entry))) (r .outcome) ⌝ }
     ensures reads { λ r. ⌜ Reads r ⌝ }
 {
     let n = task_count(table);

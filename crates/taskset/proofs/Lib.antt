@@ -1,3 +1,4 @@
 pub mod DemandLaws
 pub mod LimitLaws
 pub mod ReadingLaws
+pub mod TableLaws

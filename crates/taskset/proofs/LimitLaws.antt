@@ -13,10 +13,10 @@ use Rattle.numbers.proofs.RowLaws.{entries-there}
 use Rattle.affinity.specs.Permitted.{unfit, Unfit, everyCore}
 use Rattle.affinity.proofs.PermittedLaws.{unfit-says, fit-byte, fit-not, fit-some, every-fits}
 use Rattle.refusal.specs.Tests.{inOrder}
-use Rattle.refusal.specs.Conditions.{Fails, None}
+use Rattle.refusal.specs.Conditions.{Fails, None, Reports, Tested}
 use Rattle.refusal.specs.declared.Cause.the-variants.{TaskCount, CoreCount, Period, Budget, Hyperperiod, Charge, Cost, Affinity}
 use Rattle.refusal.proofs.TestLaws.{inOrder-append}
-use Rattle.refusal.proofs.ConditionLaws.{Reports, test-only, test-at, _and_, no-more, then-reports, none-append, _also_, Tested}
+use Rattle.refusal.proofs.ConditionLaws.{test-only, test-at, _and_, no-more, then-reports, none-append, _also_}
 use Rattle.taskset.specs.Fields.{periodAt, budgetAt, costAt, affinityAt}
 use Rattle.taskset.specs.Demands.{multipleTo, hyperperiodOf}
 use Rattle.taskset.specs.Tests.{badPeriod, badBudget, badCost, badAffinity, exceeds, sizeTests, limitTests, fieldsOutcome}

@@ -4,13 +4,14 @@ use mathlib.Core.Path.{_≡_, refl, sym, _∙_, ap}
 use mathlib.Core.Logic.{⊎-elim}
 use native.Mathlib.Omega.{arith}
 use Rattle.refusal.specs.Causes.{numberIn}
-use Rattle.refusal.specs.Tests.{_then_, inOrder}
+use Rattle.refusal.specs.Tests.{_then_, inOrder, byOutcome}
 use Rattle.refusal.specs.Conditions.{Decides}
 use Rattle.refusal.specs.declared.Cause.{Cause}
 use Rattle.refusal.specs.declared.Outcome.{Outcome}
 use Rattle.refusal.specs.declared.Outcome.the-variants.{Accepted, Refused}
 use Rattle.refusal.proofs.CauseLaws.{number-range}
-use Rattle.refusal.proofs.TestLaws.{accepted≢refused, outcome-cases, then-first, then-refused, inOrder-append}
+use Rattle.refusal.proofs.TestLaws.{accepted≢refused, outcome-cases, then-first, then-refused, inOrder-append, by-says}
+use Rattle.refusal.proofs.TestLaws as tests
 use Rattle.refusal.proofs.ConditionLaws.{decides, accepts}
 use Rattle.taskset.specs.Tests.{sizeTests, limitTests, fieldsOutcome}
 use Rattle.taskset.specs.Reading.{taskSetOf, noTasks, refusedReading, acceptedReading, readingBy, checkOf}
@@ -23,19 +24,12 @@ use Rattle.taskset.proofs.LimitLaws.{sizes-reported, sizes-kept, limits
 -- the answer's outcome is that of the tests
 pub reading-outcome : (o : Outcome) (f : Fields) → readingBy o f .outcome ≡ o
 unfolding readingBy refusedReading acceptedReading
-reading-outcome Accepted f = refl
-reading-outcome (Refused c) f = refl
-
--- an accepted answer is the task set of its fields
-pub reading-accepted : (o : Outcome) (f : Fields) → readingBy o f .outcome ≡ Accepted → readingBy o f .tasks ≡ taskSetOf f
-unfolding readingBy refusedReading acceptedReading
-reading-accepted Accepted f e = refl
-reading-accepted (Refused c) f e = absurd (accepted≢refused e refl)
+reading-outcome o f = by-says refusedReading acceptedReading (λ r. r .outcome) (λ c. refl) (λ x. refl) o f
 
 -- What a reading promises, where the tests accept only fields within the limits.
 module _ (f : Fields) where
   pub reading-promised : (o : Outcome) → (o ≡ Accepted → Within f) → Reads (readingBy o f)
-  unfolding readingBy refusedReading acceptedReading taskSetOf noTasks
+  unfolding readingBy byOutcome refusedReading acceptedReading taskSetOf noTasks
   reading-promised Accepted w = record {
     checked = λ e. record { within = w refl; is = refl };
     exact = λ e. taskSet-exact (w refl);
@@ -74,11 +68,11 @@ module _ (f : Fields) where
 
   pub by-refused : {o p : Outcome} {c : Cause} {r : Reading} → r ≡ refusedReading c → o ≡ p → o ≡ Refused c → r ≡ readingBy p f
   unfolding readingBy
-  by-refused e p q = rw (← p, q) e
+  by-refused e p q = e ∙ sym (tests.by-refused _ _ f (sym p ∙ q))
 
   pub by-accepted : {o p : Outcome} {r : Reading} → r ≡ acceptedReading f → o ≡ p → o ≡ Accepted → r ≡ readingBy p f
   unfolding readingBy
-  by-accepted e p q = rw (← p, q) e
+  by-accepted e p q = e ∙ sym (tests.by-accepted _ _ f (sym p ∙ q))
 
   -- tests made before those of the limits
   pub after-refused : (p : Outcome) {o : Outcome} {c : Cause} {r : Reading} → r ≡ refusedReading c → o ≡ Refused c → r ≡ readingBy (o then p) f

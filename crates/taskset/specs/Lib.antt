@@ -3,3 +3,4 @@ pub mod Demands
 pub mod Tests
 pub mod Reading
 pub mod Limits
+pub mod Table

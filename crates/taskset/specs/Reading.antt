@@ -4,6 +4,7 @@ use lib.Dec.{eqb}
 use lib.ListN.{replicate}
 use Rattle.numbers.specs.First.{first}
 use Rattle.numbers.specs.Rows.{row}
+use Rattle.refusal.specs.Tests.{byOutcome}
 use Rattle.refusal.specs.declared.Cause.{Cause}
 use Rattle.refusal.specs.declared.Outcome.{Outcome}
 use Rattle.refusal.specs.declared.Outcome.the-variants.{Accepted, Refused}
@@ -43,8 +44,7 @@ acceptedReading f = record { outcome = Accepted; tasks = taskSetOf f }
 
 -- the whole answer, by the outcome of the tests
 unfoldable pub readingBy : Outcome → Fields → Reading
-readingBy (Refused cause) f = refusedReading cause
-readingBy Accepted f = acceptedReading f
+readingBy = byOutcome refusedReading acceptedReading
 
 -- the answer for fields alone
 unfoldable pub checkOf : Fields → Reading

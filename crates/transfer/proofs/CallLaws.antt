@@ -2,37 +2,40 @@
 use Prim.Native.Nat.{ℕ, _+_, _*_, _≤_}
 use mathlib.Core.Path.{_≡_, refl, sym, _∙_, ap}
 use mathlib.Core.List.{List, [], _∷_, _++_}
-use mathlib.Core.Logic.{⊎-elim}
+use mathlib.Core.Logic.{_↔_}
 use lib.ListN.{length, getD}
 use Rattle.wire.specs.Bytes.{Bytes}
-use Rattle.refusal.specs.Conditions.{Condition, Decides}
-use Rattle.refusal.specs.Tests.{_then_}
+use Rattle.refusal.specs.Conditions.{Condition, Decides, Tested}
+use Rattle.refusal.specs.Tests.{_then_, roomTest}
+use Rattle.refusal.specs.declared.Cause.the-variants.{Buffer}
 use Rattle.refusal.specs.declared.Outcome.{Outcome}
 use Rattle.refusal.specs.declared.Outcome.the-variants.{Accepted}
-use Rattle.refusal.proofs.TestLaws.{outcome-cases, then-accepted, then-refused}
-use Rattle.refusal.proofs.ConditionLaws.{Tested, unnamed, join-after, decides, accepts}
+use Rattle.refusal.proofs.TestLaws.{then-accepted, by-accepted}
+use Rattle.refusal.proofs.ConditionLaws.{unnamed, join-after, decides, accepts}
 use Rattle.taskset.specs.Fields.{Free, cut}
 use Rattle.taskset.specs.Tests.{fieldsOutcome}
-use Rattle.taskset.specs.Reading.{taskSetOf, acceptedReading, checkOf}
+use Rattle.taskset.specs.Reading.{taskSetOf, refusedReading, acceptedReading, readingBy, checkOf}
 use Rattle.taskset.specs.Limits.{Within, sizes, chargeAbove, periodOutside, budgetOutside, costAbove, rowOther, affinityUnfit, multipleAbove, Reads}
 use Rattle.taskset.specs.declared.Fields.{Fields}
 use Rattle.taskset.specs.declared.Reading.{Reading}
 use Rattle.taskset.proofs.LimitLaws.{row-every, fields-tested}
-use Rattle.taskset.proofs.ReadingLaws.{reading-outcome, reading-accepted, reads-few}
+use Rattle.taskset.proofs.ReadingLaws.{reading-outcome, reads-few}
 use Rattle.stored.specs.Form.{taskCount, fieldsOf, everyAffinity, fieldsAlone, tableBytes, OldForm}
-use Rattle.stored.specs.Tests.{tableOutcome, readingOf}
-use Rattle.stored.specs.Limits.{Valid}
+use Rattle.taskset.specs.Table.{readingOf, Sound}
+use Rattle.taskset.proofs.TableLaws.{table-accepts, valid-reading, read-outcome, read-tasks, read-fields, also-read}
+use Rattle.stored.specs.Tests.{tableOutcome}
+use Rattle.stored.specs.Limits.{Valid, alone}
 use Rattle.stored.proofs.FormLaws.{every-affinity}
 use Rattle.stored.proofs.BackLaws.{table-long, table-form, table-read-back, table-write-back, cut-alone}
-use Rattle.stored.proofs.TableLaws as table
+use Rattle.stored.proofs.TableLaws.{table-tested-alone, alone-sound}
 use Rattle.setup.specs.Form.{setupFields, setupBytes, NewForm}
-use Rattle.setup.specs.Tests.{setupOutcome, setupReading}
-use Rattle.setup.specs.Limits.{ValidSetup, setupConditions}
+use Rattle.setup.specs.Tests.{setupOutcome}
+use Rattle.setup.specs.Limits.{ValidSetup, setupConditions, new}
 use Rattle.setup.proofs.BackLaws.{setup-long, setup-form, setup-read-back, setup-write-back, cut-read}
-use Rattle.setup.proofs.SetupLaws as setup
-use Rattle.transfer.specs.Lent.{roomTest, answerOf, outputOf}
+use Rattle.setup.proofs.SetupLaws.{setup-tested, new-sound}
+use Rattle.transfer.specs.Lent.{answerOf, outputOf}
 use Rattle.transfer.specs.Calls.{listed, writeAnswer, writeOutput, newAnswer, newOutput, fillingTest, backOutcome, oldAnswer, oldOutput}
-use Rattle.transfer.specs.Limits.{ValidWrite, writeConditions, ValidNew, newConditions, otherFilling, ValidOld, oldConditions}
+use Rattle.transfer.specs.Limits.{ValidWrite, writeConditions, ValidNew, newConditions, otherFilling, returned, ValidOld, oldConditions}
 use Rattle.transfer.specs.Promise.{Stores, storedIn, ReadBack, Unread, Yields, MovedOn, MovedBack}
 use Rattle.transfer.specs.declared.Transfer.{Transfer}
 use Rattle.transfer.proofs.StoreLaws.{answer-same, output-same, answer-outcome, stored-tested, well, stored-is, stored-keeps, yields}
@@ -45,8 +48,17 @@ reading-stored g s = (reads-few g s, λ q. s .checked q .within)
 
 -- a decision about all tests is one about the answer
 decided : {Good : Type 0} {cs : List Condition} (before : Outcome) (bytes : List ℕ) (room : ℕ) {r : Transfer}
-    → Tested Good cs (before then roomTest (length bytes) room) → r ≡ answerOf before bytes room → Decides Good cs (r .outcome)
-decided before bytes room t e = rw (e, answer-outcome before bytes room) (decides t)
+    → Tested Good cs (before then roomTest Buffer (length bytes) room) → r ≡ answerOf Buffer before bytes room → Decides Good cs (r .outcome)
+decided before bytes room t e = rw (e, answer-outcome Buffer before bytes room) (decides t)
+
+-- each form's tests accept exactly a valid table
+moving-accepts : (s : List ℕ) → (tableOutcome s 0 (everyAffinity s) ≡ Accepted) ↔ Valid s 0 (everyAffinity s)
+unfolding alone
+moving-accepts s = table-accepts (alone-sound s)
+
+setup-accepts : (s : List ℕ) → (setupOutcome s ≡ Accepted) ↔ ValidSetup s
+unfolding new
+setup-accepts s = table-accepts (new-sound s)
 
 -- Bytes of fields in the new form are a valid table that reads as these fields, cut at n.
 module _ (f : Fields) (w : Within (listed f)) where
@@ -58,8 +70,9 @@ module _ (f : Fields) (w : Within (listed f)) where
   unfolding setupBytes
   bytes-valid = record { first = refl; exact = setup-long (listed f) w; fields = rw read-back (within-cut f w) }
 
-  pub bytes-reading : setupReading (setupBytes f) ≡ acceptedReading (cut f)
-  bytes-reading = setup.valid-reading (setupBytes f) bytes-valid ∙ ap acceptedReading read-back
+  pub bytes-reading : readingOf (new (setupBytes f)) ≡ acceptedReading (cut f)
+  unfolding new
+  bytes-reading = valid-reading (new-sound (setupBytes f)) bytes-valid ∙ ap acceptedReading read-back
 
 -- ---- the writer
 
@@ -71,9 +84,9 @@ module _ (f : Fields) where
   unfolding setupBytes
   write-long q = setup-long (listed f) (tested-within (listed f) q)
 
-  write-tested : (room : ℕ) → Tested (ValidWrite f room) (writeConditions f room) (written then roomTest (length (setupBytes f)) room)
+  write-tested : (room : ℕ) → Tested (ValidWrite f room) (writeConditions f room) (written then roomTest Buffer (length (setupBytes f)) room)
   write-tested room =
-      stored-tested written (setupBytes f) (4 + 9 * f .n) room
+      stored-tested Buffer refl written (setupBytes f) (4 + 9 * f .n) room
       (unnamed (sizes f ++ chargeAbove f ∷ periodOutside f ∷ budgetOutside f ∷ costAbove f ∷ []) (rowOther (listed f)) (affinityUnfit f ∷ multipleAbove f ∷ [])
       (λ n. row-every (listed f) refl) (fields-tested (listed f)))
       (λ w. write-long (accepts (decides (fields-tested (listed f))) .1 w))
@@ -85,16 +98,16 @@ module _ (f : Fields) where
     check-outcome = rw (c, e) (reading-outcome written (listed f))
 
     check-bytes : written ≡ Accepted → setupBytes (g .tasks .fields) ≡ setupBytes f
-    unfolding checkOf taskSetOf setupBytes
-    check-bytes q = ap (λ (t : Reading). setupBytes (t .tasks .fields)) (c ∙ ap checkOf e) ∙ ap (λ t. setupBytes (t .fields)) (reading-accepted written (listed f) (reading-outcome written (listed f) ∙ q))
+    unfolding checkOf readingBy acceptedReading taskSetOf setupBytes
+    check-bytes q = ap (λ (t : Reading). setupBytes (t .tasks .fields)) (c ∙ ap checkOf e) ∙ ap (λ (t : Reading). setupBytes (t .tasks .fields)) (by-accepted refusedReading acceptedReading (listed f) q)
 
-    pub write-answer : (room : ℕ) {r : Transfer} → r ≡ answerOf (g .outcome) (setupBytes (g .tasks .fields)) room → r ≡ writeAnswer f room
+    pub write-answer : (room : ℕ) {r : Transfer} → r ≡ answerOf Buffer (g .outcome) (setupBytes (g .tasks .fields)) room → r ≡ writeAnswer f room
     unfolding writeAnswer
-    write-answer room h = h ∙ answer-same check-outcome check-bytes room
+    write-answer room h = h ∙ answer-same Buffer check-outcome check-bytes room
 
-    pub write-output : (out : List ℕ) {after : List ℕ} → after ≡ outputOf (g .outcome) (setupBytes (g .tasks .fields)) out → after ≡ writeOutput f out
+    pub write-output : (out : List ℕ) {after : List ℕ} → after ≡ outputOf Buffer (g .outcome) (setupBytes (g .tasks .fields)) out → after ≡ writeOutput f out
     unfolding writeOutput
-    write-output out h = h ∙ output-same check-outcome check-bytes out
+    write-output out h = h ∙ output-same Buffer check-outcome check-bytes out
 
   -- its promises
   module _ (out : List ℕ) {after : List ℕ} {r : Transfer} (e : r ≡ writeAnswer f (length out)) (g : after ≡ writeOutput f out) where
@@ -110,25 +123,25 @@ module _ (f : Fields) where
 
     pub write-stores : Stores (NewForm f) (4 + 9 * f .n) out r after
     unfolding writeAnswer writeOutput
-    write-stores = stored-keeps (NewForm f) (4 + 9 * f .n) written (setupBytes f) out write-long write-form e g
+    write-stores = stored-keeps Buffer (NewForm f) (4 + 9 * f .n) written (setupBytes f) out write-long write-form e g
 
     pub write-back : ReadBack f r after
     unfolding writeAnswer writeOutput
     write-back q =
-        let w = tested-within (listed f) (well (NewForm f) (4 + 9 * f .n) written (setupBytes f) out write-long write-form e g q) in
-        rw (stored-is (NewForm f) (4 + 9 * f .n) written (setupBytes f) out write-long write-form e g q) (bytes-reading f w)
+        let w = tested-within (listed f) (well Buffer (NewForm f) (4 + 9 * f .n) written (setupBytes f) out write-long write-form e g q) in
+        rw (stored-is Buffer (NewForm f) (4 + 9 * f .n) written (setupBytes f) out write-long write-form e g q) (bytes-reading f w)
 
     pub write-unread : Unread f out r after
     unfolding writeAnswer writeOutput
     write-unread h a =
         let o : fieldsOutcome (listed h) ≡ written = sym (outcome-alike f h a) in
         let b : written ≡ Accepted → setupBytes h ≡ setupBytes f = λ q. sym (bytes-alike f h a (tested-within (listed f) q) (tested-within (listed h) (o ∙ q))) in
-        (answer-same o b (length out) ∙ sym e, output-same o b out ∙ sym g)
+        (answer-same Buffer o b (length out) ∙ sym e, output-same Buffer o b out ∙ sym g)
 
 -- writing what was read gives the bytes
 pub read-written : (s : List ℕ) → Bytes s → ValidSetup s → Yields (writeAnswer (setupFields s)) (writeOutput (setupFields s)) s
 unfolding writeAnswer writeOutput setupFields
-read-written s small v = yields (fieldsOutcome (setupFields s)) (setupBytes (setupFields s)) s (accepts (decides (fields-tested (setupFields s))) .1 (v .fields)) (setup-write-back s small v)
+read-written s small v = yields Buffer (fieldsOutcome (setupFields s)) (setupBytes (setupFields s)) s (accepts (decides (fields-tested (setupFields s))) .1 (v .fields)) (setup-write-back s small v)
 
 -- ---- the move from the old form
 
@@ -137,33 +150,34 @@ module _ (s : List ℕ) where
   moving = tableOutcome s 0 (everyAffinity s)
 
   moving-valid : moving ≡ Accepted → Valid s 0 (everyAffinity s)
-  moving-valid q = table.table-accepts s 0 (everyAffinity s) .0 q
+  moving-valid q = moving-accepts s .0 q
 
   new-long : moving ≡ Accepted → length (setupBytes (fieldsAlone s)) ≡ 4 + 9 * taskCount s
   unfolding fieldsOf
   new-long q = setup-long (fieldsAlone s) (moving-valid q .fields)
 
-  new-tested : (room : ℕ) → Tested (ValidNew s room) (newConditions s room) (moving then roomTest (length (setupBytes (fieldsAlone s))) room)
+  new-tested : (room : ℕ) → Tested (ValidNew s room) (newConditions s room) (moving then roomTest Buffer (length (setupBytes (fieldsAlone s))) room)
   new-tested room =
-      stored-tested moving (setupBytes (fieldsAlone s)) (4 + 9 * taskCount s) room (table.table-tested-alone s)
-      (λ v. new-long (table.table-accepts s 0 (everyAffinity s) .1 v))
+      stored-tested Buffer refl moving (setupBytes (fieldsAlone s)) (4 + 9 * taskCount s) room (table-tested-alone s)
+      (λ v. new-long (moving-accepts s .1 v))
 
   -- the program's steps
-  module _ {g : Reading} (c : g ≡ readingOf s 0 (everyAffinity s)) where
+  module _ {g : Reading} (c : g ≡ readingOf (alone s)) where
     moved-outcome : g .outcome ≡ moving
-    moved-outcome = table.read-outcome s 0 (everyAffinity s) c
+    unfolding alone
+    moved-outcome = read-outcome (alone s) c
 
     moved-bytes : moving ≡ Accepted → setupBytes (g .tasks .fields) ≡ setupBytes (fieldsAlone s)
-    unfolding taskSetOf
-    moved-bytes q = ap (λ t. setupBytes (t .fields)) (table.read-tasks s 0 (everyAffinity s) c (moved-outcome ∙ q))
+    unfolding taskSetOf alone
+    moved-bytes q = ap (λ t. setupBytes (t .fields)) (read-tasks (alone s) c (moved-outcome ∙ q))
 
-    pub new-answer : (room : ℕ) {r : Transfer} → r ≡ answerOf (g .outcome) (setupBytes (g .tasks .fields)) room → r ≡ newAnswer s room
+    pub new-answer : (room : ℕ) {r : Transfer} → r ≡ answerOf Buffer (g .outcome) (setupBytes (g .tasks .fields)) room → r ≡ newAnswer s room
     unfolding newAnswer
-    new-answer room h = h ∙ answer-same moved-outcome moved-bytes room
+    new-answer room h = h ∙ answer-same Buffer moved-outcome moved-bytes room
 
-    pub new-output : (out : List ℕ) {after : List ℕ} → after ≡ outputOf (g .outcome) (setupBytes (g .tasks .fields)) out → after ≡ newOutput s out
+    pub new-output : (out : List ℕ) {after : List ℕ} → after ≡ outputOf Buffer (g .outcome) (setupBytes (g .tasks .fields)) out → after ≡ newOutput s out
     unfolding newOutput
-    new-output out h = h ∙ output-same moved-outcome moved-bytes out
+    new-output out h = h ∙ output-same Buffer moved-outcome moved-bytes out
 
   -- A valid table, moved: it reads as before, and moved back it is the same bytes.
   module _ (v : Valid s 0 (everyAffinity s)) where
@@ -181,18 +195,19 @@ module _ (s : List ℕ) where
     unfolding setupBytes
     there-valid = record { first = refl; exact = setup-long (fieldsAlone s) (v .fields); fields = rw there-fields (v .fields) }
 
-    pub there-reading : setupReading there ≡ readingOf s 0 (everyAffinity s)
+    pub there-reading : readingOf (new there) ≡ readingOf (alone s)
+    unfolding new alone
     there-reading =
-        setup.valid-reading there there-valid ∙ ap acceptedReading there-fields ∙ sym (table.valid-reading s 0 (everyAffinity s) v)
+        valid-reading (new-sound there) there-valid ∙ ap acceptedReading there-fields ∙ sym (valid-reading (alone-sound s) v)
 
     there-back : backOutcome there ≡ Accepted
     unfolding backOutcome fieldsOf _then_
-    there-back = rw (setup.setup-accepts there .1 there-valid, there-fields, filling-accepts (fieldsAlone s) refl (every-affinity s 0 few))
+    there-back = rw (setup-accepts there .1 there-valid, there-fields, filling-accepts (fieldsAlone s) refl (every-affinity s 0 few))
 
     pub there-and-back : Bytes s → Yields (oldAnswer there) (oldOutput there) s
     unfolding oldAnswer oldOutput
     there-and-back small =
-        yields (backOutcome there) (tableBytes (setupFields there)) s there-back (ap tableBytes there-fields ∙ table-write-back s small 0 (everyAffinity s) v)
+        yields Buffer (backOutcome there) (tableBytes (setupFields there)) s there-back (ap tableBytes there-fields ∙ table-write-back s small 0 (everyAffinity s) v)
 
   -- its promises
   module _ (out : List ℕ) {after : List ℕ} {r : Transfer} (e : r ≡ newAnswer s (length out)) (g : after ≡ newOutput s out) where
@@ -205,7 +220,7 @@ module _ (s : List ℕ) where
 
     pub new-stores : Stores (NewForm (fieldsAlone s)) (4 + 9 * taskCount s) out r after
     unfolding newAnswer newOutput
-    new-stores = stored-keeps (NewForm (fieldsAlone s)) (4 + 9 * taskCount s) moving (setupBytes (fieldsAlone s)) out new-long new-form e g
+    new-stores = stored-keeps Buffer (NewForm (fieldsAlone s)) (4 + 9 * taskCount s) moving (setupBytes (fieldsAlone s)) out new-long new-form e g
 
     pub new-moved : Bytes s → MovedOn s r after
     unfolding newAnswer newOutput
@@ -215,10 +230,10 @@ module _ (s : List ℕ) where
     }
       where
         is : r .outcome ≡ Accepted → storedIn r after ≡ setupBytes (fieldsAlone s)
-        is q = stored-is (NewForm (fieldsAlone s)) (4 + 9 * taskCount s) moving (setupBytes (fieldsAlone s)) out new-long new-form e g q
+        is q = stored-is Buffer (NewForm (fieldsAlone s)) (4 + 9 * taskCount s) moving (setupBytes (fieldsAlone s)) out new-long new-form e g q
 
         valid : r .outcome ≡ Accepted → Valid s 0 (everyAffinity s)
-        valid q = moving-valid (well (NewForm (fieldsAlone s)) (4 + 9 * taskCount s) moving (setupBytes (fieldsAlone s)) out new-long new-form e g q)
+        valid q = moving-valid (well Buffer (NewForm (fieldsAlone s)) (4 + 9 * taskCount s) moving (setupBytes (fieldsAlone s)) out new-long new-form e g q)
 
 -- ---- the move back
 
@@ -228,47 +243,47 @@ module _ (s : List ℕ) where
 
   pub back-tested : Tested (ValidSetup s × ((f .charge ≡ 0) × Free f)) (setupConditions s ++ otherFilling f ∷ []) (backOutcome s)
   unfolding backOutcome
-  back-tested = join-after (setup.setup-tested s) (λ n. filling-tested f (setup.setup-tested s .valid .0 n .fields))
+  back-tested = join-after (setup-tested s) (λ n. filling-tested f (setup-tested s .valid .0 n .fields))
+
+  pub returned-sound : Sound (returned s)
+  unfolding returned new backOutcome
+  returned-sound = record { tested = back-tested; within = λ v. v .0 .fields }
 
   back-accepted : backOutcome s ≡ Accepted → (setupOutcome s ≡ Accepted) × (fillingTest f ≡ Accepted)
   unfolding backOutcome
   back-accepted q = then-accepted (setupOutcome s) (fillingTest f) q
 
   back-valid : backOutcome s ≡ Accepted → ValidSetup s
-  back-valid q = setup.setup-accepts s .0 (back-accepted q .0)
+  back-valid q = setup-accepts s .0 (back-accepted q .0)
 
   old-long : backOutcome s ≡ Accepted → length (tableBytes f) ≡ 2 + 8 * getD s 1 0
   unfolding setupFields
   old-long q = table-long f (back-valid q .fields)
 
-  old-tested : (room : ℕ) → Tested (ValidOld s room) (oldConditions s room) (backOutcome s then roomTest (length (tableBytes f)) room)
+  old-tested : (room : ℕ) → Tested (ValidOld s room) (oldConditions s room) (backOutcome s then roomTest Buffer (length (tableBytes f)) room)
   old-tested room =
-      stored-tested (backOutcome s) (tableBytes f) (2 + 8 * getD s 1 0) room back-tested (λ v. old-long (accepts (decides back-tested) .1 v))
+      stored-tested Buffer refl (backOutcome s) (tableBytes f) (2 + 8 * getD s 1 0) room back-tested (λ v. old-long (accepts (decides back-tested) .1 v))
 
   -- the program's steps
-  module _ {g : Reading} (c : g ≡ setupReading s) {filling : Outcome} (p : filling ≡ fillingTest (g .tasks .fields)) {tests : Outcome} (q : tests ≡ g .outcome then filling) where
+  module _ {g : Reading} (c : g ≡ readingOf (new s)) {filling : Outcome} (p : filling ≡ fillingTest (g .tasks .fields)) {tests : Outcome} (q : tests ≡ g .outcome then filling) where
     tests-are : tests ≡ backOutcome s
-    unfolding backOutcome
-    tests-are =
-        ⊎-elim
-        (λ x. rw (← setup.read-outcome s c, ← setup.read-fields s c x, ← p) q)
-        (λ x. q ∙ then-refused (g .outcome) filling (x .0) (x .1)
-        ∙ sym (then-refused (setupOutcome s) (fillingTest f) (x .0) (sym (setup.read-outcome s c) ∙ x .1)))
-        (outcome-cases (g .outcome))
+    unfolding backOutcome new
+    tests-are = also-read (new s) c fillingTest (rw (← p) q)
 
     fields-are : backOutcome s ≡ Accepted → g .tasks .fields ≡ f
-    fields-are x = setup.read-fields s c (setup.read-outcome s c ∙ back-accepted x .0)
+    unfolding new
+    fields-are x = read-fields (new s) c (read-outcome (new s) c ∙ back-accepted x .0)
 
     pub old-ready : Reads g → (g .tasks .fields .n ≤ 16) × (tests ≡ Accepted → Within (g .tasks .fields))
     old-ready reads = (reads-few g reads, λ x. reads .checked (then-accepted (g .outcome) filling (sym q ∙ x) .0) .within)
 
-    pub old-answer : (room : ℕ) {r : Transfer} → r ≡ answerOf tests (tableBytes (g .tasks .fields)) room → r ≡ oldAnswer s room
+    pub old-answer : (room : ℕ) {r : Transfer} → r ≡ answerOf Buffer tests (tableBytes (g .tasks .fields)) room → r ≡ oldAnswer s room
     unfolding oldAnswer
-    old-answer room h = h ∙ answer-same tests-are (λ x. ap tableBytes (fields-are x)) room
+    old-answer room h = h ∙ answer-same Buffer tests-are (λ x. ap tableBytes (fields-are x)) room
 
-    pub old-output : (out : List ℕ) {after : List ℕ} → after ≡ outputOf tests (tableBytes (g .tasks .fields)) out → after ≡ oldOutput s out
+    pub old-output : (out : List ℕ) {after : List ℕ} → after ≡ outputOf Buffer tests (tableBytes (g .tasks .fields)) out → after ≡ oldOutput s out
     unfolding oldOutput
-    old-output out h = h ∙ output-same tests-are (λ x. ap tableBytes (fields-are x)) out
+    old-output out h = h ∙ output-same Buffer tests-are (λ x. ap tableBytes (fields-are x)) out
 
   -- A valid table with those fillings, moved back: it reads as before, and moved on again it is the same bytes.
   module _ (v : ValidSetup s) (fills : fillingTest f ≡ Accepted) where
@@ -287,15 +302,16 @@ module _ (s : List ℕ) where
     unfolding tableBytes
     here-valid = record { exact = table-long f (v .fields); fields = rw here-fields (v .fields) }
 
-    pub here-reading : readingOf here 0 (everyAffinity here) ≡ setupReading s
+    pub here-reading : readingOf (alone here) ≡ readingOf (new s)
+    unfolding new alone
     here-reading =
-        table.valid-reading here 0 (everyAffinity here) here-valid ∙ ap acceptedReading here-fields ∙ sym (setup.valid-reading s v)
+        valid-reading (alone-sound here) here-valid ∙ ap acceptedReading here-fields ∙ sym (valid-reading (new-sound s) v)
 
     pub here-and-on : Bytes s → Yields (newAnswer here) (newOutput here) s
     unfolding newAnswer newOutput
     here-and-on small =
-        yields (tableOutcome here 0 (everyAffinity here)) (setupBytes (fieldsAlone here)) s
-        (table.table-accepts here 0 (everyAffinity here) .1 here-valid) (ap setupBytes here-fields ∙ setup-write-back s small v)
+        yields Buffer (tableOutcome here 0 (everyAffinity here)) (setupBytes (fieldsAlone here)) s
+        (moving-accepts here .1 here-valid) (ap setupBytes here-fields ∙ setup-write-back s small v)
 
   -- its promises
   module _ (out : List ℕ) {after : List ℕ} {r : Transfer} (e : r ≡ oldAnswer s (length out)) (g : after ≡ oldOutput s out) where
@@ -308,7 +324,7 @@ module _ (s : List ℕ) where
 
     pub old-stores : Stores (OldForm f) (2 + 8 * getD s 1 0) out r after
     unfolding oldAnswer oldOutput
-    old-stores = stored-keeps (OldForm f) (2 + 8 * getD s 1 0) (backOutcome s) (tableBytes f) out old-long old-form e g
+    old-stores = stored-keeps Buffer (OldForm f) (2 + 8 * getD s 1 0) (backOutcome s) (tableBytes f) out old-long old-form e g
 
     pub old-moved : Bytes s → MovedBack s r after
     unfolding oldAnswer oldOutput
@@ -318,10 +334,10 @@ module _ (s : List ℕ) where
     }
       where
         is : r .outcome ≡ Accepted → storedIn r after ≡ tableBytes f
-        is q = stored-is (OldForm f) (2 + 8 * getD s 1 0) (backOutcome s) (tableBytes f) out old-long old-form e g q
+        is q = stored-is Buffer (OldForm f) (2 + 8 * getD s 1 0) (backOutcome s) (tableBytes f) out old-long old-form e g q
 
         accepted : r .outcome ≡ Accepted → backOutcome s ≡ Accepted
-        accepted q = well (OldForm f) (2 + 8 * getD s 1 0) (backOutcome s) (tableBytes f) out old-long old-form e g q
+        accepted q = well Buffer (OldForm f) (2 + 8 * getD s 1 0) (backOutcome s) (tableBytes f) out old-long old-form e g q
 
         valid : r .outcome ≡ Accepted → ValidSetup s
         valid q = back-valid (accepted q)

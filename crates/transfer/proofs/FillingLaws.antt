@@ -18,7 +18,8 @@ use Rattle.refusal.specs.Tests.{refuseIf}
 use Rattle.refusal.specs.declared.Cause.the-variants.{Filling}
 use Rattle.refusal.specs.declared.Outcome.the-variants.{Accepted}
 use Rattle.refusal.proofs.TestLaws.{refuseIf-accepted}
-use Rattle.refusal.proofs.ConditionLaws.{test-only, Tested}
+use Rattle.refusal.specs.Conditions.{Tested}
+use Rattle.refusal.proofs.ConditionLaws.{test-only}
 use Rattle.taskset.specs.Fields.{affinityAt, Free, Tied}
 use Rattle.taskset.specs.Limits.{Within}
 use Rattle.taskset.specs.declared.Fields.{Fields}

@@ -10,28 +10,26 @@ use lib.Seq.{take-at, drop-at}
 use native.Mathlib.Omega.{arith}
 use borrow.Author.Tests.{le-ltb}
 use Rattle.numbers.proofs.BoundLaws.{less-exactly, not-less}
-use Rattle.refusal.specs.Causes.{numberIn}
-use Rattle.refusal.specs.Tests.{_then_, refuseIf}
-use Rattle.refusal.specs.Conditions.{Condition}
+use Rattle.refusal.specs.Causes.{numberOf, placeOf, numberIn}
+use Rattle.refusal.specs.Tests.{_then_, refuseIf, roomTest, byOutcome}
+use Rattle.refusal.specs.Conditions.{Condition, Tested, noRoom}
 use Rattle.refusal.specs.declared.Cause.{Cause}
-use Rattle.refusal.specs.declared.Cause.the-variants.{Buffer}
 use Rattle.refusal.specs.declared.Outcome.{Outcome}
 use Rattle.refusal.specs.declared.Outcome.the-variants.{Accepted, Refused}
-use Rattle.refusal.proofs.TestLaws.{outcome-cases, then-accepted, then-refused, refuseIf-accepted}
-use Rattle.refusal.proofs.ConditionLaws.{test-only, Tested, join-after}
+use Rattle.refusal.proofs.TestLaws.{outcome-cases, then-accepted, then-refused, refuseIf-accepted, by-says}
+use Rattle.refusal.proofs.ConditionLaws.{join-after, room-tested}
 use Rattle.refusal.proofs.CauseLaws.{number-range}
-use Rattle.transfer.specs.Lent.{roomTest, answerBy, outputBy, answerOf, outputOf}
-use Rattle.transfer.specs.Limits.{noRoom}
+use Rattle.transfer.specs.Lent.{answerBy, outputBy, answerOf, outputOf}
 use Rattle.transfer.specs.Promise.{Stores, storedIn, Yields}
 use Rattle.transfer.specs.declared.Transfer.{Transfer}
 
 -- there is room where the test accepts
-room-there : (size room : ℕ) → roomTest size room ≡ Accepted → size ≤ room
-room-there size room e = not-less room size (λ h. true≢false (sym (less-exactly room size .1 h) ∙ refuseIf-accepted (ltb room size) Buffer e))
+room-there : (cause : Cause) (size room : ℕ) → roomTest cause size room ≡ Accepted → size ≤ room
+room-there cause size room e = not-less room size (λ h. true≢false (sym (less-exactly room size .1 h) ∙ refuseIf-accepted (ltb room size) cause e))
 
 -- The steps of a program that tests, and writes where all tests accept.
-module _ (before : Outcome) (bytes out : List ℕ) (size : ℕ) (long : before ≡ Accepted → length bytes ≡ size) {o : Outcome} (p : o ≡ before then roomTest size (length out)) where
-  same-outcome : o ≡ before then roomTest (length bytes) (length out)
+module _ (cause : Cause) (before : Outcome) (bytes out : List ℕ) (size : ℕ) (long : before ≡ Accepted → length bytes ≡ size) {o : Outcome} (p : o ≡ before then roomTest cause size (length out)) where
+  same-outcome : o ≡ before then roomTest cause (length bytes) (length out)
   same-outcome =
       ⊎-elim
       (λ q. rw (long q) p)
@@ -42,68 +40,63 @@ module _ (before : Outcome) (bytes out : List ℕ) (size : ℕ) (long : before �
   store-before q = then-accepted before _ (sym p ∙ q) .0
 
   pub store-room : o ≡ Accepted → size ≤ length out
-  store-room q = room-there size (length out) (then-accepted before _ (sym p ∙ q) .1)
+  store-room q = room-there cause size (length out) (then-accepted before _ (sym p ∙ q) .1)
 
-  pub store-refused : {c : Cause} {r : Transfer} → o ≡ Refused c → r ≡ answerBy o size → (r ≡ answerOf before bytes (length out)) × (out ≡ outputOf before bytes out)
-  unfolding answerOf outputOf answerBy outputBy
+  pub store-refused : {c : Cause} {r : Transfer} → o ≡ Refused c → r ≡ answerBy o size → (r ≡ answerOf cause before bytes (length out)) × (out ≡ outputOf cause before bytes out)
+  unfolding answerOf outputOf answerBy outputBy byOutcome
   store-refused {c} q e = (e ∙ rw (← same-outcome, q), rw (← same-outcome, q))
 
   pub store-accepted : {r : Transfer} {after : List ℕ} → o ≡ Accepted → r ≡ answerBy o size → after ≡ bytes ++ drop (length bytes) out
-      → (r ≡ answerOf before bytes (length out)) × (after ≡ outputOf before bytes out)
-  unfolding answerOf outputOf answerBy outputBy
+      → (r ≡ answerOf cause before bytes (length out)) × (after ≡ outputOf cause before bytes out)
+  unfolding answerOf outputOf answerBy outputBy byOutcome
   store-accepted q e w = (e ∙ rw (← same-outcome, q, long (store-before q)), w ∙ rw (← same-outcome, q))
 
   pub store-same : {after : List ℕ} → o ≡ Accepted → after ≡ bytes ++ drop (length bytes) out → length after ≡ length out
   store-same q w = rw (w, length-append bytes (drop (length bytes) out), length-drop (length bytes) out) (omega (arith, store-room q, long (store-before q)))
 
 -- Outcomes that are the same, with bytes that are where they accept, give the same answer and output.
-module _ {o p : Outcome} (e : o ≡ p) {b d : List ℕ} (h : p ≡ Accepted → b ≡ d) where
-  pub answer-same : (room : ℕ) → answerOf o b room ≡ answerOf p d room
-  unfolding answerOf answerBy
+module _ (cause : Cause) {o p : Outcome} (e : o ≡ p) {b d : List ℕ} (h : p ≡ Accepted → b ≡ d) where
+  pub answer-same : (room : ℕ) → answerOf cause o b room ≡ answerOf cause p d room
+  unfolding answerOf answerBy byOutcome
   answer-same room =
       rw e
       (⊎-elim
       (λ q. rw (h q))
-      (λ q. rw (then-refused p (roomTest (length b) room) (q .0) (q .1), then-refused p (roomTest (length d) room) (q .0) (q .1)))
+      (λ q. rw (then-refused p (roomTest cause (length b) room) (q .0) (q .1), then-refused p (roomTest cause (length d) room) (q .0) (q .1)))
       (outcome-cases p))
 
-  pub output-same : (out : List ℕ) → outputOf o b out ≡ outputOf p d out
-  unfolding outputOf outputBy
+  pub output-same : (out : List ℕ) → outputOf cause o b out ≡ outputOf cause p d out
+  unfolding outputOf outputBy byOutcome
   output-same out =
       rw e
       (⊎-elim
       (λ q. rw (h q))
-      (λ q. rw (then-refused p (roomTest (length b) (length out)) (q .0) (q .1), then-refused p (roomTest (length d) (length out)) (q .0) (q .1)))
+      (λ q. rw (then-refused p (roomTest cause (length b) (length out)) (q .0) (q .1), then-refused p (roomTest cause (length d) (length out)) (q .0) (q .1)))
       (outcome-cases p))
 
 -- the outcome of an answer is that of all tests
 by-outcome : (o : Outcome) (size : ℕ) → answerBy o size .outcome ≡ o
 unfolding answerBy
-by-outcome Accepted size = refl
-by-outcome (Refused c) size = refl
+by-outcome o size = by-says _ _ (λ (r : Transfer). r .outcome) (λ c. refl) (λ x. refl) o size
 
-pub answer-outcome : (before : Outcome) (bytes : List ℕ) (room : ℕ) → answerOf before bytes room .outcome ≡ before then roomTest (length bytes) room
+pub answer-outcome : (cause : Cause) (before : Outcome) (bytes : List ℕ) (room : ℕ) → answerOf cause before bytes room .outcome ≡ before then roomTest cause (length bytes) room
 unfolding answerOf
-answer-outcome before bytes room = by-outcome (before then roomTest (length bytes) room) (length bytes)
+answer-outcome cause before bytes room = by-outcome (before then roomTest cause (length bytes) room) (length bytes)
 
 -- The tests before, then number 8, decide.
-pub stored-tested : {Good : Type 0} {cs : List Condition} (before : Outcome) (bytes : List ℕ) (size room : ℕ) → Tested Good cs before → (Good → length bytes ≡ size)
-    → Tested (Good × (size ≤ room)) (cs ++ noRoom size room ∷ []) (before then roomTest (length bytes) room)
-stored-tested before bytes size room t long =
-    join-after t (λ n. record {
-      reports = rw (long (t .valid .0 n)) (test-only Buffer refl (less-exactly room size));
-      valid = (λ m. not-less room size (m .0), λ h. (λ g. omega arith, tt));
-    })
+pub stored-tested : {Good : Type 0} {cs : List Condition} (cause : Cause) → placeOf cause ≡ 0 → (before : Outcome) (bytes : List ℕ) (size room : ℕ) → Tested Good cs before
+    → (Good → length bytes ≡ size) → Tested (Good × (size ≤ room)) (cs ++ noRoom (numberOf cause) size room ∷ []) (before then roomTest cause (length bytes) room)
+stored-tested cause z before bytes size room t long = join-after t (λ n. rw (long (t .valid .0 n)) (room-tested cause z size room))
 
 -- What an answer and an output of the definitions promise.
-module _ (Form : List ℕ → Type 0) (size : ℕ) (before : Outcome) (bytes out : List ℕ)
+module _ (cause : Cause) (Form : List ℕ → Type 0) (size : ℕ) (before : Outcome) (bytes out : List ℕ)
     (long : before ≡ Accepted → length bytes ≡ size) (form : before ≡ Accepted → (behind : List ℕ) → Form (bytes ++ behind))
-    {r : Transfer} {after : List ℕ} (e : r ≡ answerOf before bytes (length out)) (g : after ≡ outputOf before bytes out) where
+    {r : Transfer} {after : List ℕ} (e : r ≡ answerOf cause before bytes (length out)) (g : after ≡ outputOf cause before bytes out) where
   abbrev all : Outcome
-  all = before then roomTest (length bytes) (length out)
+  all = before then roomTest cause (length bytes) (length out)
 
   outcome-is : r .outcome ≡ all
-  outcome-is = ap (λ x. x .outcome) e ∙ answer-outcome before bytes (length out)
+  outcome-is = ap (λ x. x .outcome) e ∙ answer-outcome cause before bytes (length out)
 
   -- of an accepted call,
   module _ (q : r .outcome ≡ Accepted) where
@@ -114,14 +107,14 @@ module _ (Form : List ℕ → Type 0) (size : ℕ) (before : Outcome) (bytes out
     well = then-accepted before _ accepted .0
 
     room : length bytes ≤ length out
-    room = room-there (length bytes) (length out) (then-accepted before _ accepted .1)
+    room = room-there cause (length bytes) (length out) (then-accepted before _ accepted .1)
 
     length-is : r .length ≡ length bytes
-    unfolding answerOf answerBy
+    unfolding answerOf answerBy byOutcome
     length-is = ap (λ x. x .length) e ∙ rw accepted
 
     after-is : after ≡ bytes ++ drop (length bytes) out
-    unfolding outputOf outputBy
+    unfolding outputOf outputBy byOutcome
     after-is = g ∙ rw accepted
 
     pub stored-is : storedIn r after ≡ bytes
@@ -133,11 +126,11 @@ module _ (Form : List ℕ → Type 0) (size : ℕ) (before : Outcome) (bytes out
     refused-by = ⊎-elim (λ q. absurd (n (ap numberIn (outcome-is ∙ q)))) (λ q. q) (outcome-cases all)
 
     length-none : r .length ≡ 0
-    unfolding answerOf answerBy
+    unfolding answerOf answerBy byOutcome
     length-none = ap (λ x. x .length) e ∙ rw (refused-by .1)
 
     after-same : after ≡ out
-    unfolding outputOf outputBy
+    unfolding outputOf outputBy byOutcome
     after-same = g ∙ rw (refused-by .1)
 
   pub stored-keeps : Stores Form size out r after
@@ -155,9 +148,9 @@ module _ (Form : List ℕ → Type 0) (size : ℕ) (before : Outcome) (bytes out
   }
 
 -- A call whose tests accept gives its bytes, wherever there is room.
-pub yields : (before : Outcome) (bytes s : List ℕ) → before ≡ Accepted → bytes ≡ s → Yields (answerOf before bytes) (outputOf before bytes) s
-unfolding answerOf answerBy outputOf outputBy refuseIf _then_
-yields before bytes s q e = record {
+pub yields : (cause : Cause) (before : Outcome) (bytes s : List ℕ) → before ≡ Accepted → bytes ≡ s → Yields (answerOf cause before bytes) (outputOf cause before bytes) s
+unfolding answerOf answerBy outputOf outputBy byOutcome refuseIf _then_
+yields cause before bytes s q e = record {
   answers = λ room h. rw (q, e, le-ltb room (length s) h);
   outputs = λ out h. rw (q, e, le-ltb (length out) (length s) h);
 }

@@ -6,7 +6,7 @@ use lib.Dec.{eqb}
 use Rattle.numbers.specs.First.{first}
 use Rattle.affinity.specs.Permitted.{everyCore}
 use Rattle.refusal.specs.Tests.{_then_, refuseIf}
-use Rattle.refusal.specs.declared.Cause.the-variants.{Filling}
+use Rattle.refusal.specs.declared.Cause.the-variants.{Buffer, Filling}
 use Rattle.refusal.specs.declared.Outcome.{Outcome}
 use Rattle.taskset.specs.Fields.{affinityAt}
 use Rattle.taskset.specs.Tests.{fieldsOutcome}
@@ -24,17 +24,17 @@ listed f = record { n = f .n; m = f .m; charge = f .charge; periods = f .periods
 
 -- the writer: the tests of fields
 unfoldable pub writeAnswer : Fields → ℕ → Transfer
-writeAnswer f room = answerOf (fieldsOutcome (listed f)) (setupBytes f) room
+writeAnswer f room = answerOf Buffer (fieldsOutcome (listed f)) (setupBytes f) room
 
 unfoldable pub writeOutput : Fields → List ℕ → List ℕ
-writeOutput f out = outputOf (fieldsOutcome (listed f)) (setupBytes f) out
+writeOutput f out = outputOf Buffer (fieldsOutcome (listed f)) (setupBytes f) out
 
 -- the move from the old form: the tests of a table that is read by itself; charge 0 and every core are filled in
 unfoldable pub newAnswer : List ℕ → ℕ → Transfer
-newAnswer s room = answerOf (tableOutcome s 0 (everyAffinity s)) (setupBytes (fieldsAlone s)) room
+newAnswer s room = answerOf Buffer (tableOutcome s 0 (everyAffinity s)) (setupBytes (fieldsAlone s)) room
 
 unfoldable pub newOutput : List ℕ → List ℕ → List ℕ
-newOutput s out = outputOf (tableOutcome s 0 (everyAffinity s)) (setupBytes (fieldsAlone s)) out
+newOutput s out = outputOf Buffer (tableOutcome s 0 (everyAffinity s)) (setupBytes (fieldsAlone s)) out
 
 -- whether the core byte of a task is another than that of every core
 unfoldable pub otherByte : Fields → ℕ → Bool
@@ -50,7 +50,7 @@ backOutcome s = setupOutcome s then fillingTest (setupFields s)
 
 -- the move back to the old form
 unfoldable pub oldAnswer : List ℕ → ℕ → Transfer
-oldAnswer s room = answerOf (backOutcome s) (tableBytes (setupFields s)) room
+oldAnswer s room = answerOf Buffer (backOutcome s) (tableBytes (setupFields s)) room
 
 unfoldable pub oldOutput : List ℕ → List ℕ → List ℕ
-oldOutput s out = outputOf (backOutcome s) (tableBytes (setupFields s)) out
+oldOutput s out = outputOf Buffer (backOutcome s) (tableBytes (setupFields s)) out

@@ -9,9 +9,9 @@ use Rattle.refusal.specs.declared.Outcome.the-variants.{Accepted}
 use Rattle.taskset.specs.Fields.{cut, Alike}
 use Rattle.taskset.specs.Reading.{acceptedReading}
 use Rattle.taskset.specs.declared.Fields.{Fields}
-use Rattle.stored.specs.Form.{everyAffinity}
-use Rattle.stored.specs.Tests.{readingOf}
-use Rattle.setup.specs.Tests.{setupReading}
+use Rattle.taskset.specs.Table.{readingOf}
+use Rattle.stored.specs.Limits.{alone}
+use Rattle.setup.specs.Limits.{new}
 use Rattle.transfer.specs.Calls.{writeAnswer, writeOutput, newAnswer, newOutput, oldAnswer, oldOutput}
 use Rattle.transfer.specs.declared.Transfer.{Transfer}
 
@@ -38,7 +38,7 @@ pub record Yields (answer : ℕ → Transfer) (output : List ℕ → List ℕ) (
 
 -- What the writer was given is read back from what it wrote, cut at n.
 abbrev pub ReadBack : Fields → Transfer → List ℕ → Type 0
-ReadBack f r after = r .outcome ≡ Accepted → setupReading (storedIn r after) ≡ acceptedReading (cut f)
+ReadBack f r after = r .outcome ≡ Accepted → readingOf (new (storedIn r after)) ≡ acceptedReading (cut f)
 
 -- It reads no entry beyond n: fields that are equal up to n give the same answer and output.
 abbrev pub Unread : Fields → List ℕ → Transfer → List ℕ → Type 0
@@ -46,10 +46,10 @@ Unread f out r after = (g : Fields) → Alike f g → (writeAnswer g (length out
 
 -- A table that was moved to the new form reads as it did, so every call on task sets says the same of both; moved back it is the same bytes.
 pub record MovedOn (s : List ℕ) (r : Transfer) (after : List ℕ) : Type 0 where
-  pub reads : r .outcome ≡ Accepted → setupReading (storedIn r after) ≡ readingOf s 0 (everyAffinity s)
+  pub reads : r .outcome ≡ Accepted → readingOf (new (storedIn r after)) ≡ readingOf (alone s)
   pub returns : r .outcome ≡ Accepted → Yields (oldAnswer (storedIn r after)) (oldOutput (storedIn r after)) s
 
 -- A table that was moved back reads as it did; moved to the new form again it is the same bytes.
 pub record MovedBack (s : List ℕ) (r : Transfer) (after : List ℕ) : Type 0 where
-  pub reads : r .outcome ≡ Accepted → readingOf (storedIn r after) 0 (everyAffinity (storedIn r after)) ≡ setupReading s
+  pub reads : r .outcome ≡ Accepted → readingOf (alone (storedIn r after)) ≡ readingOf (new s)
   pub returns : r .outcome ≡ Accepted → Yields (newAnswer (storedIn r after)) (newOutput (storedIn r after)) s

@@ -4,13 +4,14 @@ ghost use mathlib.Core.List.{_++_};
 ghost use Prim.Native.Nat.{_+_, _*_, _≤_, _<_};
 ghost use lib.ListN.{length, getD, drop};
 ghost use Rattle.numbers.specs.First.{first};
-ghost use Rattle.refusal.specs.Tests.{_then_};
+ghost use Rattle.refusal.specs.Tests.{_then_, roomTest};
+ghost use Rattle.refusal.specs.declared.Cause.the-variants.{Buffer};
 ghost use Rattle.refusal.specs.Conditions.{Decides};
 ghost use Rattle.refusal.specs.declared.Outcome.the-variants.{Accepted};
 ghost use Rattle.taskset.specs.Limits.{Within};
 ghost use Rattle.stored.specs.Form.{fieldsAlone, tableBytes, OldForm};
 ghost use Rattle.setup.specs.Form.{setupFields, setupBytes, NewForm};
-ghost use Rattle.transfer.specs.Lent.{roomTest, answerBy, answerOf, outputOf};
+ghost use Rattle.transfer.specs.Lent.{answerBy, answerOf, outputOf};
 ghost use Rattle.transfer.specs.Calls.{listed as listedFields, writeAnswer, writeOutput, newAnswer, newOutput, otherByte, fillingTest, oldAnswer, oldOutput};
 ghost use Rattle.transfer.specs.Limits.{ValidWrite, writeConditions, ValidNew, newConditions, ValidOld, oldConditions};
 ghost use Rattle.transfer.specs.Promise.{Stores, ReadBack, Unread, MovedOn, MovedBack};
@@ -58,9 +59,9 @@ fn put_table(out: &mut [u8], f: Fields)
 
 // The tests before, then number 8: the output is shorter than the table.
 fn room_after(before: Outcome, size: usize, room: usize) -> Outcome
-    ensures { λ r. ⌜ r ≡ before then roomTest size room ⌝ }
+    ensures { λ r. ⌜ r ≡ before then roomTest Buffer size room ⌝ }
 {
-    let fits = refusal::refuse_if(room < size, Cause::Buffer);
+    let fits = refusal::room_test(Cause::Buffer, size, room);
     refusal::then(before, fits)
 }
 
@@ -83,8 +84,8 @@ fn answer(outcome: Outcome, size: usize) -> Transfer
 // Stores fields in the new form after tests that accept only fields within the limits, if there is room.
 fn store_setup(before: Outcome, f: Fields, out: &mut [u8]) -> Transfer
     requires { ⌜ (f .n ≤ 16) × (before ≡ Accepted → Within f) ⌝ }
-    ensures answer { λ r. ⌜ r ≡ answerOf before (setupBytes f) (length (now (out .entry))) ⌝ }
-    ensures output { λ r. ⌜ now (out .exit) ≡ outputOf before (setupBytes f) (now (out .entry)) ⌝ }
+    ensures answer { λ r. ⌜ r ≡ answerOf Buffer before (setupBytes f) (length (now (out .entry))) ⌝ }
+    ensures output { λ r. ⌜ now (out .exit) ≡ outputOf Buffer before (setupBytes f) (now (out .entry)) ⌝ }
 {
     let size = 4 + 9 * f.n;
     let outcome = room_after(before, size, out.len());
@@ -100,8 +101,8 @@ fn store_setup(before: Outcome, f: Fields, out: &mut [u8]) -> Transfer
 // The same in the old form.
 fn store_table(before: Outcome, f: Fields, out: &mut [u8]) -> Transfer
     requires { ⌜ (f .n ≤ 16) × (before ≡ Accepted → Within f) ⌝ }
-    ensures answer { λ r. ⌜ r ≡ answerOf before (tableBytes f) (length (now (out .entry))) ⌝ }
-    ensures output { λ r. ⌜ now (out .exit) ≡ outputOf before (tableBytes f) (now (out .entry)) ⌝ }
+    ensures answer { λ r. ⌜ r ≡ answerOf Buffer before (tableBytes f) (length (now (out .entry))) ⌝ }
+    ensures output { λ r. ⌜ now (out .exit) ≡ outputOf Buffer before (tableBytes f) (now (out .entry)) ⌝ }
 {
     let size = 2 + 8 * f.n;
     let outcome = room_after(before, size, out.len());

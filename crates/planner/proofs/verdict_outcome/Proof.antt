@@ -1,5 +1,6 @@
 -- An outcome for each verdict.
 use Rattle.planner.specs.Plan.{verdictOutcome}
+use Rattle.planner.proofs.PlanLaws.{outcome-of}
 use borrow.Author.Needs.{needs}
 use Rattle.planner.proofs.verdict_outcome.Statement.{statement}
 use Rattle.planner.proofs.verdict_outcome.Tie as tie
@@ -7,5 +8,5 @@ use Rattle.planner.proofs.verdict_outcome.Tie as tie
 pub verdict-outcome-spec : {M : Type 1} → statement M
 unfolding verdictOutcome
 verdict-outcome-spec =
-    tie.close (tie.spec (λ c. search needs) (λ c. search needs) (λ c. search needs) (λ c. search needs) (λ c. cc)
-    (λ c. cc) (λ c. cc) (λ c. cc))
+    tie.close (tie.spec (λ c. search needs) (λ c. search needs) (λ c. search needs) (λ c. search needs) (λ c. search (needs, outcome-of))
+    (λ c. search (needs, outcome-of)) (λ c. search (needs, outcome-of)) (λ c. search (needs, outcome-of)))

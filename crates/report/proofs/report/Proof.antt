@@ -1,5 +1,6 @@
 -- The reader's refusal is printed alone; an accepted table is planned, and its plan is no refusal.
 use Rattle.taskset.proofs.ReadingLaws.{reading-checked, reading-few}
+use Rattle.setup.proofs.SetupLaws.{new-sound}
 use Rattle.listing.proofs.PrintedLaws.{printed-refused, printed-planned, plan-printed}
 use Rattle.planner.specs.Plan.{planFor}
 use Rattle.report.specs.Output.{planLines}
@@ -11,6 +12,6 @@ use Rattle.report.proofs.report.Tie as tie
 pub report-spec : {M : Type 1} → statement M
 report-spec =
     tie.close (tie.spec (λ c κs. search needs) (λ c. search needs) (λ c. search needs) (λ c κs. search needs)
-    (λ c. output-both _ (search (needs, printed-refused))) (λ c κs. search (needs, reading-checked)) (λ c. search needs)
+    (λ c. output-both (new-sound _) (search (needs, printed-refused))) (λ c κs. search (needs, reading-checked)) (λ c. search needs)
     (λ c κs. search needs) (λ c κs. search needs) (λ c. absurd (search (needs, never-refused)))
-    (λ c κs. search (needs, reading-few)) (λ c. output-both _ (search (needs, printed-planned, plan-printed planLines (λ f. planFor f 1000000)))))
+    (λ c κs. search (needs, reading-few)) (λ c. output-both (new-sound _) (search (needs, printed-planned, plan-printed planLines (λ f. planFor f 1000000)))))

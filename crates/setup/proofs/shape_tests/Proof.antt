@@ -4,12 +4,13 @@ use mathlib.Core.List.{_∷_}
 use Rattle.refusal.specs.Tests.{_then_}
 use Rattle.refusal.proofs.TestLaws.{order-step}
 use Rattle.taskset.specs.Tests.{sizeTests}
-use Rattle.setup.specs.Tests.{firstTest}
+use Rattle.setup.specs.Tests.{firstTest, shapeOutcome}
 use borrow.Author.Needs.{needs}
 use Rattle.setup.proofs.shape_tests.Statement.{statement}
 use Rattle.setup.proofs.shape_tests.Tie as tie
 
 returns : tie.Need-returns
+unfolding shapeOutcome
 returns c =
     let sizes = c .before .before .before .before in
     let f = sizes .before .before .before .before .args .f in

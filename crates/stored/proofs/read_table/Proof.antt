@@ -1,17 +1,9 @@
 -- The same with the byte of every core for each task; numbers 13, 14 and 15 need not be named.
 use Rattle.stored.proofs.FormLaws.{fields-alone}
-use Rattle.stored.proofs.TableLaws.{shape-says, read-answer, read-alone, read-reads}
+use Rattle.stored.proofs.TableLaws.{shape-says, alone-read}
 use borrow.Author.Needs.{needs}
 use Rattle.stored.proofs.read_table.Statement.{statement}
 use Rattle.stored.proofs.read_table.Tie as tie
-
-check-after-requires : tie.Need-check-after-requires
-check-after-requires c κs =
-    let row = c .before .before in
-    let cores = row .before .before in
-    let f = fields-alone (cores .before .before .before .args .table .now) (c .before .decode .ensures) (row .repeated .ensures) (row .before .every-core .ensures)
-    (cores .before .task-count .ensures .0) (cores .core-count .ensures) in
-    shape-says _ _ _ f (c .shape-tests .ensures)
 
 returns : tie.Need-returns
 returns c =
@@ -19,10 +11,9 @@ returns c =
     let cores = row .before .before in
     let f = fields-alone (cores .before .before .before .args .table .now) (c .before .before .decode .ensures) (row .repeated .ensures) (row .before .every-core .ensures)
     (cores .before .task-count .ensures .0) (cores .core-count .ensures) in
-    let e = read-answer _ _ _ f (c .before .shape-tests .ensures) (c .check-after .ensures) in
-    (e, (read-alone _ e, read-reads _ _ _ e))
+    alone-read _ (c .before .shape-tests .ensures) (c .check-after .ensures) f
 
 pub read-table-spec : {M : Type 1} → statement M
 read-table-spec =
     tie.close (tie.spec (λ c κs. search needs) (λ c κs. search needs) (λ c κs. search needs) (λ c κs. search needs)
-    (λ c κs. search needs) (λ c κs. search needs) check-after-requires returns)
+    (λ c κs. search needs) (λ c κs. search needs) (λ c κs. shape-says _ (c .shape-tests .ensures)) returns)

@@ -1,13 +1,19 @@
 -- The tests are joined in their order.
-use mathlib.Core.Path.{refl}
+use mathlib.Core.Path.{_∙_, ap₂}
+use Rattle.refusal.specs.Tests.{_then_}
 use Rattle.refusal.proofs.TestLaws.{order-step}
 use Rattle.taskset.specs.Tests.{sizeTests}
+use Rattle.stored.specs.Tests.{shapeOutcome}
 use borrow.Author.Needs.{needs}
 use Rattle.stored.proofs.shape_tests.Statement.{statement}
 use Rattle.stored.proofs.shape_tests.Tie as tie
 
 returns : tie.Need-returns
-returns c = cc (order-step {t = c .before .before .before .before .short-test .result} (sizeTests _) refl (c .before .before .before .before .short-test .ensures) (c .before .before .before .size-tests .ensures))
+unfolding shapeOutcome
+returns c =
+    let sizes = c .before .before .before in
+    let f = sizes .before .before .before .args .f in
+    c .then2 .ensures ∙ ap₂ _then_ (order-step (sizeTests f) (c .before .then .ensures) (sizes .before .short-test .ensures) (sizes .size-tests .ensures)) (c .before .before .length-test .ensures)
 
 pub shape-tests-spec : {M : Type 1} → statement M
 shape-tests-spec =

@@ -1,6 +1,7 @@
 -- Where all tests accept the table is written; a refusal leaves the output.
 use Rattle.setup.specs.Form.{setupBytes}
 use Rattle.setup.proofs.BackLaws.{setup-long}
+use Rattle.refusal.specs.declared.Cause.the-variants.{Buffer}
 use Rattle.transfer.proofs.StoreLaws.{store-before, store-room, store-refused, store-accepted, store-same}
 use borrow.Author.Needs.{needs}
 use Rattle.transfer.proofs.store_setup.Statement.{statement}
@@ -10,22 +11,22 @@ put-setup-requires : tie.Need-put-setup-requires
 put-setup-requires c κs =
     let start = c .before .before .before .before .before .before in
     let q = c .before .enum-told2 .given .1 in
-    (start .pre .1 (store-before (start .args .before) (setupBytes (start .args .f)) (start .args .out .now) _ (λ x. setup-long _ (start .pre .1 x)) (c .before .before .before .room-after .ensures) q), store-room (start .args .before) (setupBytes (start .args .f)) (start .args .out .now) _ (λ x. setup-long _ (start .pre .1 x)) (c .before .before .before .room-after .ensures) q)
+    (start .pre .1 (store-before Buffer (start .args .before) (setupBytes (start .args .f)) (start .args .out .now) _ (λ x. setup-long _ (start .pre .1 x)) (c .before .before .before .room-after .ensures) q), store-room Buffer (start .args .before) (setupBytes (start .args .f)) (start .args .out .now) _ (λ x. setup-long _ (start .pre .1 x)) (c .before .before .before .room-after .ensures) q)
 
 returns : tie.Need-returns
 returns c =
     let start = c .before .before .before .before .before .before in
-    store-refused (start .args .before) (setupBytes (start .args .f)) (start .args .out .now) _ (λ x. setup-long _ (start .pre .1 x)) (c .before .before .before .room-after .ensures) (c .before .enum-told .given .1) (c .answer .ensures)
+    store-refused Buffer (start .args .before) (setupBytes (start .args .f)) (start .args .out .now) _ (λ x. setup-long _ (start .pre .1 x)) (c .before .before .before .room-after .ensures) (c .before .enum-told .given .1) (c .answer .ensures)
 
 same-length : tie.Need-same-length
 same-length c =
     let start = c .before .before .before .before .before .before .before .before .before .before in
-    store-same (start .args .before) (setupBytes (start .args .f)) (start .args .out .now) _ (λ x. setup-long _ (start .pre .1 x)) (c .before .before .before .before .before .before .before .room-after .ensures) (c .before .before .before .before .before .enum-told2 .given .1) (c .before .before .before .put-setup .ensures)
+    store-same Buffer (start .args .before) (setupBytes (start .args .f)) (start .args .out .now) _ (λ x. setup-long _ (start .pre .1 x)) (c .before .before .before .before .before .before .before .room-after .ensures) (c .before .before .before .before .before .enum-told2 .given .1) (c .before .before .before .put-setup .ensures)
 
 returns-2 : tie.Need-returns-2
 returns-2 c =
     let start = c .before .before .before .before .before .before .before .before .before .before in
-    store-accepted (start .args .before) (setupBytes (start .args .f)) (start .args .out .now) _ (λ x. setup-long _ (start .pre .1 x)) (c .before .before .before .before .before .before .before .room-after .ensures) (c .before .before .before .before .before .enum-told2 .given .1) (c .answer2 .ensures) (c .before .before .before .put-setup .ensures)
+    store-accepted Buffer (start .args .before) (setupBytes (start .args .f)) (start .args .out .now) _ (λ x. setup-long _ (start .pre .1 x)) (c .before .before .before .before .before .before .before .room-after .ensures) (c .before .before .before .before .before .enum-told2 .given .1) (c .answer2 .ensures) (c .before .before .before .put-setup .ensures)
 
 pub store-setup-spec : {M : Type 1} → statement M
 store-setup-spec =

@@ -1,6 +1,7 @@
 -- Where all tests accept the table is written; a refusal leaves the output.
 use Rattle.stored.specs.Form.{tableBytes}
 use Rattle.stored.proofs.BackLaws.{table-long}
+use Rattle.refusal.specs.declared.Cause.the-variants.{Buffer}
 use Rattle.transfer.proofs.StoreLaws.{store-before, store-room, store-refused, store-accepted, store-same}
 use borrow.Author.Needs.{needs}
 use Rattle.transfer.proofs.store_table.Statement.{statement}
@@ -10,22 +11,22 @@ put-table-requires : tie.Need-put-table-requires
 put-table-requires c κs =
     let start = c .before .before .before .before .before .before in
     let q = c .before .enum-told2 .given .1 in
-    (start .pre .1 (store-before (start .args .before) (tableBytes (start .args .f)) (start .args .out .now) _ (λ x. table-long _ (start .pre .1 x)) (c .before .before .before .room-after .ensures) q), store-room (start .args .before) (tableBytes (start .args .f)) (start .args .out .now) _ (λ x. table-long _ (start .pre .1 x)) (c .before .before .before .room-after .ensures) q)
+    (start .pre .1 (store-before Buffer (start .args .before) (tableBytes (start .args .f)) (start .args .out .now) _ (λ x. table-long _ (start .pre .1 x)) (c .before .before .before .room-after .ensures) q), store-room Buffer (start .args .before) (tableBytes (start .args .f)) (start .args .out .now) _ (λ x. table-long _ (start .pre .1 x)) (c .before .before .before .room-after .ensures) q)
 
 returns : tie.Need-returns
 returns c =
     let start = c .before .before .before .before .before .before in
-    store-refused (start .args .before) (tableBytes (start .args .f)) (start .args .out .now) _ (λ x. table-long _ (start .pre .1 x)) (c .before .before .before .room-after .ensures) (c .before .enum-told .given .1) (c .answer .ensures)
+    store-refused Buffer (start .args .before) (tableBytes (start .args .f)) (start .args .out .now) _ (λ x. table-long _ (start .pre .1 x)) (c .before .before .before .room-after .ensures) (c .before .enum-told .given .1) (c .answer .ensures)
 
 same-length : tie.Need-same-length
 same-length c =
     let start = c .before .before .before .before .before .before .before .before .before .before in
-    store-same (start .args .before) (tableBytes (start .args .f)) (start .args .out .now) _ (λ x. table-long _ (start .pre .1 x)) (c .before .before .before .before .before .before .before .room-after .ensures) (c .before .before .before .before .before .enum-told2 .given .1) (c .before .before .before .put-table .ensures)
+    store-same Buffer (start .args .before) (tableBytes (start .args .f)) (start .args .out .now) _ (λ x. table-long _ (start .pre .1 x)) (c .before .before .before .before .before .before .before .room-after .ensures) (c .before .before .before .before .before .enum-told2 .given .1) (c .before .before .before .put-table .ensures)
 
 returns-2 : tie.Need-returns-2
 returns-2 c =
     let start = c .before .before .before .before .before .before .before .before .before .before in
-    store-accepted (start .args .before) (tableBytes (start .args .f)) (start .args .out .now) _ (λ x. table-long _ (start .pre .1 x)) (c .before .before .before .before .before .before .before .room-after .ensures) (c .before .before .before .before .before .enum-told2 .given .1) (c .answer2 .ensures) (c .before .before .before .put-table .ensures)
+    store-accepted Buffer (start .args .before) (tableBytes (start .args .f)) (start .args .out .now) _ (λ x. table-long _ (start .pre .1 x)) (c .before .before .before .before .before .before .before .room-after .ensures) (c .before .before .before .before .before .enum-told2 .given .1) (c .answer2 .ensures) (c .before .before .before .put-table .ensures)
 
 pub store-table-spec : {M : Type 1} → statement M
 store-table-spec =

@@ -1,4 +1,4 @@
--- What a table asks of the planner. Tasks are counted from 0 in table order.
+-- What a table asks of every planner. Tasks are counted from 0 in table order.
 use Prim.Native.Nat.{ℕ}
 use mathlib.Core.List.{List}
 use Rattle.numbers.specs.Rows.{tab}

@@ -1,0 +1,1 @@
+// What is promised of every plan: definitions and laws, no code.

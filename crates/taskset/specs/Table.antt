@@ -1,0 +1,34 @@
+-- A table as a call is given it: one value, whatever the bytes that it is stored in and what stands beside them.
+use mathlib.Core.List.{List, _++_}
+use Rattle.refusal.specs.Tests.{_then_}
+use Rattle.refusal.specs.Conditions.{Condition, Decides, Tested}
+use Rattle.refusal.specs.declared.Outcome.{Outcome}
+use Rattle.taskset.specs.Reading.{readingBy}
+use Rattle.taskset.specs.Limits.{Within}
+use Rattle.taskset.specs.declared.Fields.{Fields}
+use Rattle.taskset.specs.declared.Reading.{Reading}
+
+-- What it says, whether or not it is within the limits; the outcome of its tests; and, as plain statements, its limits and its
+-- refusals in the order of their tests.
+pub record Table : Type 1 where
+  pub fields : Fields
+  pub outcome : Outcome
+  pub Valid : Type 0
+  pub conditions : List Condition
+
+-- the table with tests of a call behind its own: their outcome, their limits and their refusals
+abbrev pub also : Table → Outcome → Type 0 → List Condition → Table
+also t tests Good more = record { fields = t .fields; outcome = t .outcome then tests; Valid = t .Valid × Good; conditions = t .conditions ++ more }
+
+-- what reading a table gives
+unfoldable pub readingOf : Table → Reading
+readingOf t = readingBy (t .outcome) (t .fields)
+
+-- A call on a table is accepted exactly if the table is valid, and refused with the first of its conditions that holds.
+abbrev pub Decided : Table → Outcome → Type 0
+Decided t outcome = Decides (t .Valid) (t .conditions) outcome
+
+-- A table whose tests are those of its limits and refusals, and whose limits are at least the paper's limits of fields.
+pub record Sound (t : Table) : Type 0 where
+  pub tested : Tested (t .Valid) (t .conditions) (t .outcome)
+  pub within : t .Valid → Within (t .fields)
