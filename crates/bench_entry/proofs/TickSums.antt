@@ -7,8 +7,8 @@ use native.Mathlib.Omega.{arith}
 use native.Mathlib.Nat.{mod-lt}
 use borrow.Author.Tests.{lt-ltb, le-ltb}
 use Rattle.affinity.specs.Permitted.{everyCore}
-use Rattle.stored.specs.Form.{taskCount, coreCount, everyAffinity}
-use Rattle.stored.specs.Limits.{beside}
+use Rattle.oldform.specs.Form.{taskCount, coreCount, everyAffinity}
+use Rattle.oldform.specs.Limits.{beside}
 use Rattle.edf.specs.Tick.{TickAnswer, tick}
 use Rattle.runner.specs.declared.Core.{Core}
 use Rattle.runner.specs.Answers.{tickAnswer}

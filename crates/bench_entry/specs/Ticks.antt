@@ -4,8 +4,8 @@ use mathlib.Core.List.{List}
 use mathlib.Core.Bool.{cond}
 use lib.Dec.{ltb}
 use lib.ListN.{replicate}
-use Rattle.stored.specs.Form.{taskCount, everyAffinity}
-use Rattle.stored.specs.Limits.{beside}
+use Rattle.oldform.specs.Form.{taskCount, everyAffinity}
+use Rattle.oldform.specs.Limits.{beside}
 use Rattle.edf.specs.declared.Slot.{Slot}
 use Rattle.edf.specs.Tick.{TickAnswer, tick}
 use Rattle.runner.specs.declared.Core.{Core}

@@ -2,7 +2,7 @@
 ghost use mathlib.Core.Path.{_≡_};
 ghost use Prim.Native.Nat.{_<_};
 ghost use Rattle.planner.specs.Plan.{planOf};
-ghost use Rattle.stored.specs.Limits.{beside};
+ghost use Rattle.oldform.specs.Limits.{beside};
 ghost use Rattle.bench_entry.specs.Ticks.{plus as plusOf, sumOfTasks, benchSum};
 use runner::Core;
 

@@ -25,7 +25,7 @@ use Rattle.text.specs.Joined.{joined, fields}
 use Rattle.text.specs.Shown.{shown, Appended}
 use Rattle.text.specs.declared.Text.{Text}
 use Rattle.text.proofs.ClipLaws.{append-both, append-within, append-whole}
-use Rattle.cases.specs.Lines.{outcomeFields, slotFields, recordFields, sizeFields, taskNumbers, taskFields, tableLine, verdictNumber, planLine, coreLine, tickLine, recordLine, quickLine, ceilingLine, boardFields, rowFields, setupLine}
+use Rattle.cases.specs.Lines.{outcomeFields, slotFields, recordFields, sizeFields, taskNumbers, taskFields, tableLine, verdictNumber, planLine, coreLine, tickLine, recordLine, quickLine, ceilingLine, boardFields, rowFields, newLine}
 
 -- number and place
 module _ {t r : Text} {o : Outcome} where
@@ -117,8 +117,8 @@ pub rows-made : {t a b r : Text} (f : Fields) → Appended t (fields (f .periods
 unfolding rowFields
 rows-made f p q u = append-both (append-both p q) u
 
-pub setup-whole : {t a b d line : Text} (r : Reading) {o : Outcome} → shown t ≡ [] → r .outcome ≡ o → Appended t (outcomeFields o) 41 a
+pub new-whole : {t a b d line : Text} (r : Reading) {o : Outcome} → shown t ≡ [] → r .outcome ≡ o → Appended t (outcomeFields o) 41 a
     → Appended a (boardFields (r .tasks)) 84 b → Appended b (rowFields (r .tasks .fields)) 1008 d → Appended d (ascii "\n") 1 line
-    → shown line ≡ setupLine r
-unfolding setupLine
-setup-whole r e i p q u v = append-whole e (append-both (append-both (append-both (rw (sym i) at p) q) u) v) (omega arith)
+    → shown line ≡ newLine r
+unfolding newLine
+new-whole r e i p q u v = append-whole e (append-both (append-both (append-both (rw (sym i) at p) q) u) v) (omega arith)

@@ -93,8 +93,8 @@ unfoldable pub rowFields : Fields → List ℕ
 rowFields f = fields (f .periods) ++ fields (f .budgets) ++ fields (f .affinity)
 
 -- code 7: a reading of the new form
-unfoldable pub setupLine : Reading → List ℕ
-setupLine r = outcomeFields (r .outcome) ++ boardFields (r .tasks) ++ rowFields (r .tasks .fields) ++ ascii "\n"
+unfoldable pub newLine : Reading → List ℕ
+newLine r = outcomeFields (r .outcome) ++ boardFields (r .tasks) ++ rowFields (r .tasks .fields) ++ ascii "\n"
 
 -- codes 8 to 10: the start of the line, then every byte of the output in pieces of up to a hundred, of those that are left each time
 unfoldable pub answerStart : Transfer → List ℕ

@@ -4,11 +4,11 @@ mod blocks;
 mod ceilings;
 mod cores;
 mod lines;
+mod newtables;
 mod outputs;
 mod plans;
 mod quicks;
 mod records;
-mod setups;
 mod tables;
 
 use refusal::Outcome;
@@ -58,14 +58,14 @@ fn read_row() -> Row {
 
 // Prints a table's line; false where the output fails.
 fn run_table(table: &[u8]) -> bool {
-    let reading = stored::read_table(table);
+    let reading = oldform::read_alone(table);
     console::show(tables::table_line(reading)).whole
 }
 
 // Prints the line of a table in the new form; false where the output fails.
 fn run_setup(table: &[u8]) -> bool {
-    let reading = setup::read_setup(table);
-    console::show(setups::setup_line(reading)).whole
+    let reading = newform::read_new(table);
+    console::show(newtables::new_line(reading)).whole
 }
 
 // Reads a limit and prints the plan's line; false where the case is not whole or the output fails.
@@ -196,7 +196,7 @@ fn show_stored(answer: Transfer, out: &[u8]) -> bool {
 
 // Writes fields to a lent output and prints the line; false where the output fails.
 fn write_fields(f: Fields, out: &mut [u8]) -> bool {
-    let answer = transfer::write_setup(f, out);
+    let answer = transfer::write_new(f, out);
     show_stored(answer, out)
 }
 

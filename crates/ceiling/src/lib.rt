@@ -4,7 +4,7 @@ ghost use Prim.Native.Nat.{_+_, _*_, _≤_, _<_, min};
 ghost use lib.ListN.{take};
 ghost use Rattle.taskset.specs.Limits.{Checked, Reads};
 ghost use Rattle.taskset.specs.Table.{Decided};
-ghost use Rattle.stored.specs.Limits.{beside};
+ghost use Rattle.oldform.specs.Limits.{beside};
 ghost use Rattle.ceiling.specs.Ceiling.{someTied, factorFor, sumOfProducts, stepCeiling, ceilingBy, ceilingOf};
 ghost use Rattle.ceiling.specs.Promise.{Promise};
 use refusal::Outcome;
@@ -115,6 +115,6 @@ pub fn step_ceiling(table: &[u8], charge: u32, affinity: &[u8]) -> StepCeiling
     ensures decides { λ r. ⌜ Decided (beside (now (table .entry)) charge (now (affinity .entry))) (r .outcome) ⌝ }
     ensures promise { λ r. ⌜ Promise (beside (now (table .entry)) charge (now (affinity .entry))) r ⌝ }
 {
-    let reading = stored::read_beside(table, charge, affinity);
+    let reading = oldform::read_beside(table, charge, affinity);
     ceiling_read(reading)
 }

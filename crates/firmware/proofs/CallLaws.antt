@@ -23,8 +23,8 @@ use Rattle.taskset.specs.Table.{Table, readingOf, Sound}
 use Rattle.taskset.specs.declared.Fields.{Fields}
 use Rattle.taskset.specs.declared.Reading.{Reading}
 use Rattle.taskset.proofs.TableLaws.{also-sound, table-accepts, table-within, also-read, also-fields}
-use Rattle.setup.specs.Limits.{new}
-use Rattle.setup.proofs.SetupLaws.{new-sound}
+use Rattle.newform.specs.Limits.{new}
+use Rattle.newform.proofs.NewLaws.{new-sound}
 use Rattle.plans.proofs.SafeLaws.{demands-long}
 use Rattle.planner.specs.Plan.{allocationOf, planFor, refusedPlan, verdictOutcome}
 use Rattle.planner.specs.Promise.{Promise}

@@ -7,7 +7,7 @@ use Rattle.refusal.specs.Tests.{roomTest, byOutcome}
 use Rattle.refusal.specs.Conditions.{noRoom}
 use Rattle.refusal.specs.declared.Cause.the-variants.{Buffer}
 use Rattle.taskset.specs.Table.{Table, also}
-use Rattle.setup.specs.Limits.{new}
+use Rattle.newform.specs.Limits.{new}
 use Rattle.planner.specs.Plan.{planFor, planOf}
 use Rattle.planner.specs.declared.Verdict.{Verdict}
 use Rattle.planner.specs.declared.Verdict.the-variants.{All, Short, Spent, Refused}

@@ -25,7 +25,7 @@ fn plan_into(table: &[u8], limit: u32, plan: &mut [u8]) -> u32
     ensures code { λ r. ⌜ r ≡ codeFor (called (now (table .entry)) (length (now (plan .entry)))) limit ⌝ }
     ensures buffer { λ r. ⌜ now (plan .exit) ≡ bufferAfter (called (now (table .entry)) (length (now (plan .entry)))) limit (now (plan .entry)) ⌝ }
 {
-    let reading = setup::read_setup(table);
+    let reading = newform::read_new(table);
     let n = reading.tasks.fields.n;
     let read = reading.outcome;
     let fits = refusal::room_test(Cause::Buffer, n, plan.len());

@@ -21,8 +21,8 @@ use Rattle.allocation.specs.Placement.{Problem, problemOf, load, rejected}
 use Rattle.allocation.specs.Walk.{fits}
 use Rattle.allocation.specs.FirstFit.{lowestFit, fitFrom, firstFit}
 use Rattle.allocation.proofs.FirstFit.{next-le}
-use Rattle.moves.specs.Entry.{onCore}
-use Rattle.moves.proofs.OneCore.{row-changed}
+use Rattle.branch.specs.Entry.{onCore}
+use Rattle.branch.proofs.OneCore.{row-changed}
 use Rattle.search.specs.Search.{Ranges}
 use Rattle.firstfit.specs.Fitted.{holds, fittedOf}
 use Rattle.firstfit.specs.declared.Fitted.{Fitted}

@@ -20,7 +20,7 @@ fn lowest_core(loads: [u32; 4], byte: u8, d: u32, m: usize, h: u32) -> usize
 {
     let mut k = 0;
     while k < m {
-        if moves::has_room(byte, k as u32, loads[k], d, h) {
+        if branch::has_room(byte, k as u32, loads[k], d, h) {
             return k + 1;
         }
         k += 1;
@@ -41,9 +41,9 @@ pub fn first_fit(demands: [u32; 16], affinity: [u8; 16], n: usize, m: usize, h: 
         let d = demands[k];
         let core = lowest_core(loads, affinity[k], d, m, h);
         let choice = core as u32;
-        let more = moves::with_more(loads, choice, d);
+        let more = branch::with_more(loads, choice, d);
         let next = numbers::with_byte(placement, k, core as u8);
-        rejected += moves::pick(choice, 0, d, 0);
+        rejected += branch::pick(choice, 0, d, 0);
         loads = more;
         placement = next;
         k += 1;

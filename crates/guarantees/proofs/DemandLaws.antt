@@ -10,8 +10,8 @@ use Rattle.taskset.specs.Reading.{taskSetOf}
 use Rattle.taskset.specs.Table.{Table, Sound}
 use Rattle.taskset.proofs.DemandLaws.{demand-exact}
 use Rattle.taskset.proofs.TableLaws.{read-decided, read-reads}
-use Rattle.stored.proofs.TableLaws.{beside-sound, alone-sound}
-use Rattle.setup.proofs.SetupLaws.{new-sound, new-stored}
+use Rattle.oldform.proofs.OldLaws.{beside-sound, alone-sound}
+use Rattle.newform.proofs.NewLaws.{new-sound, new-stored}
 use Rattle.planner.proofs.PromiseLaws.{plan-decided, plan-promised}
 use Rattle.quick.proofs.PromiseLaws.{quick-decided, quick-fits}
 use Rattle.ceiling.proofs.PromiseLaws.{ceiling-decided, ceiling-promise, few-unspent}

@@ -16,14 +16,14 @@ use Rattle.taskset.specs.Table.{Table, readingOf}
 use Rattle.taskset.specs.declared.Fields.{Fields}
 use Rattle.taskset.proofs.LimitLaws.{affinity-there}
 use Rattle.taskset.proofs.TableLaws.{table-accepts, read-outcome, read-fields, valid-reading, answers-alike}
-use Rattle.stored.specs.Form.{fieldsOf, tableBytes}
-use Rattle.stored.specs.Limits.{beside, alone}
-use Rattle.stored.proofs.BackLaws.{table-long, table-form}
-use Rattle.stored.proofs.TableLaws.{beside-sound, alone-sound}
-use Rattle.setup.specs.Form.{setupFields}
-use Rattle.setup.specs.Limits.{new}
-use Rattle.setup.proofs.BackLaws.{cut-read}
-use Rattle.setup.proofs.SetupLaws.{new-sound}
+use Rattle.oldform.specs.Form.{besideFields, oldBytes}
+use Rattle.oldform.specs.Limits.{beside, alone}
+use Rattle.oldform.proofs.BackLaws.{old-long, old-form}
+use Rattle.oldform.proofs.OldLaws.{beside-sound, alone-sound}
+use Rattle.newform.specs.Form.{newFields}
+use Rattle.newform.specs.Limits.{new}
+use Rattle.newform.proofs.BackLaws.{cut-read}
+use Rattle.newform.proofs.NewLaws.{new-sound}
 use Rattle.transfer.proofs.CallLaws.{write-decides, write-stores, write-back, write-unread, read-written, new-decides, new-stores, new-moved, old-decides, old-stores, old-moved}
 use Rattle.planner.specs.Plan.{planFor, refusedPlan, planBy, planOf, verdictOutcome}
 use Rattle.planner.proofs.PlanLaws.{plan-accepted-is}
@@ -101,16 +101,16 @@ module _ (s out : List ℕ) (moved : MovesOn s out) where
 -- ---- a table of the new form as one of the old, with its charge and core bytes beside it
 
 module _ (f : Fields) (w : Within f) where
-  periods-there : (k : ℕ) → k < f .n → wordAt (tableBytes f) 2 k ≡ periodAt f k
+  periods-there : (k : ℕ) → k < f .n → wordAt (oldBytes f) 2 k ≡ periodAt f k
   unfolding wordAt
-  periods-there k h = rw (append-nil (tableBytes f)) at (table-form f w [] .periods k h)
+  periods-there k h = rw (append-nil (oldBytes f)) at (old-form f w [] .periods k h)
 
-  budgets-there : (k : ℕ) → k < f .n → wordAt (tableBytes f) (2 + 4 * f .n) k ≡ budgetAt f k
+  budgets-there : (k : ℕ) → k < f .n → wordAt (oldBytes f) (2 + 4 * f .n) k ≡ budgetAt f k
   unfolding wordAt
-  budgets-there k h = rw (append-nil (tableBytes f)) at (table-form f w [] .budgets k h)
+  budgets-there k h = rw (append-nil (oldBytes f)) at (old-form f w [] .budgets k h)
 
-  parts-read : fieldsOf (tableBytes f) (f .charge) (take (f .n) (f .affinity)) ≡ cut f
-  unfolding fieldsOf tableBytes cut
+  parts-read : besideFields (oldBytes f) (f .charge) (take (f .n) (f .affinity)) ≡ cut f
+  unfolding besideFields oldBytes cut
   parts-read = λ i. record {
     n = f .n;
     m = f .m;
@@ -123,12 +123,12 @@ module _ (f : Fields) (w : Within f) where
 
 module _ (s : List ℕ) (v : new s .Valid) where
   fields-beside : besideOf s .fields ≡ new s .fields
-  unfolding beside new setupFields
-  fields-beside = parts-read (setupFields s) (v .fields) ∙ cut-read s (v .fields .sizes .tasks .1)
+  unfolding beside new newFields
+  fields-beside = parts-read (newFields s) (v .fields) ∙ cut-read s (v .fields .sizes .tasks .1)
 
   valid-beside : besideOf s .Valid
-  unfolding beside new tableBytes
-  valid-beside = record { exact = table-long (setupFields s) (v .fields); fields = rw fields-beside (v .fields) }
+  unfolding beside new oldBytes
+  valid-beside = record { exact = old-long (newFields s) (v .fields); fields = rw fields-beside (v .fields) }
 
   reads-beside : readingOf (besideOf s) ≡ readingOf (new s)
   reads-beside = valid-reading (beside-sound _ _ _) valid-beside ∙ ap acceptedReading fields-beside ∙ sym (valid-reading (new-sound s) v)

@@ -15,13 +15,13 @@ use Rattle.wire.specs.Bytes.{wordAt, byteAt}
 use Rattle.taskset.specs.Demands.{multipleTo, hyperperiodOf, demandOf}
 use Rattle.taskset.specs.Tests.{badPeriod, badBudget, badCost, badAffinity, exceeds, fieldsOutcome}
 use Rattle.taskset.specs.Reading.{taskSetOf, noTasks, refusedReading, acceptedReading, readingBy}
-use Rattle.stored.specs.Form.{fieldsOf, everyAffinity, tableBytes}
+use Rattle.oldform.specs.Form.{besideFields, everyAffinity, oldBytes}
 use Rattle.taskset.specs.Table.{readingOf}
-use Rattle.stored.specs.Tests.{shapeOutcome, tableOutcome}
-use Rattle.stored.specs.Limits.{beside}
-use Rattle.setup.specs.Form.{setupFields, setupBytes}
-use Rattle.setup.specs.Tests.{shapeOutcome as newShape, setupOutcome}
-use Rattle.setup.specs.Limits.{new}
+use Rattle.oldform.specs.Tests.{shapeOutcome, besideOutcome}
+use Rattle.oldform.specs.Limits.{beside}
+use Rattle.newform.specs.Form.{newFields, newBytes}
+use Rattle.newform.specs.Tests.{shapeOutcome as newShape, newOutcome}
+use Rattle.newform.specs.Limits.{new}
 use Rattle.transfer.specs.Lent.{answerBy, outputBy, answerOf, outputOf as outputAfter}
 use Rattle.transfer.specs.Calls.{writeAnswer, writeOutput, newAnswer, newOutput, otherByte, backOutcome, oldAnswer, oldOutput}
 use Rattle.planning.specs.Order.{precedes}
@@ -42,11 +42,11 @@ use Rattle.listing.specs.Lines.{refusalLine, sizesLine, taskLine, taskLines, ta
 use Rattle.listing.specs.Printed.{printed}
 use Rattle.report.specs.Output.{verdictWord, summaryLine, planLines, outputOf}
 use Rattle.quickreport.specs.Output.{quickSummary, quickLines, quickOutputOf}
-use Rattle.guarantees.specs.Rows.{moves, setups, ties, charges, emptyCores, quicks, more, rows, AllHold, WorkedRows}
+use Rattle.guarantees.specs.Rows.{moves, newTables, ties, charges, emptyCores, quicks, more, rows, AllHold, WorkedRows}
 
 -- every definition that a row computes by, under one name
 unfoldable opened : ℕ
-unfolding byOutcome beside new shapeOutcome newShape startFor ceilingFor refusedCeiling first firstFrom row tab upTo sumOver sumTo productTo euclid gcd lcm lcms insert sorted position scatter demandOn _then_ refuseIf refuseAt inOrder wordAt byteAt tableBytes setupBytes fieldsOutcome answerBy outputBy answerOf outputAfter writeAnswer writeOutput newAnswer newOutput otherByte backOutcome oldAnswer oldOutput fieldsOf setupFields setupOutcome lowestPermitted noTasks refusedReading multipleTo hyperperiodOf demandOf badPeriod badBudget badCost exceeds tableOutcome taskSetOf acceptedReading readingBy readingOf precedes twins isEmpty someEmptyTwin tried xor permitted permittedCount allowed unfit everyCore everyAffinity badAffinity barredAt someTied factorFor sumOfProducts upFrom choices stepInto storedAfter boundAfter entered tryAll visit trace stored answer tableAnswer tableProblem orderOf verdictOf allocationOf planFor refusedPlan planBy planOf verdictOutcome slotTest firstSlot owedFor release releaseAll chosen advanceAll stepped refusedTick tick freshSlot freshSlots loadOf aboveAt refusedStart startBy placingOutcome startOf front digitsBy decimal field refusalLine sizesLine taskLine taskLines tableLines verdictWord summaryLine planLines printed outputOf lowestFit fitFrom firstFit tableFit quickPlacement quickFor refusedQuick quickBy quickOf stepCeiling ceilingBy ceilingOf quickSummary quickLines quickOutputOf
+unfolding byOutcome beside new shapeOutcome newShape startFor ceilingFor refusedCeiling first firstFrom row tab upTo sumOver sumTo productTo euclid gcd lcm lcms insert sorted position scatter demandOn _then_ refuseIf refuseAt inOrder wordAt byteAt oldBytes newBytes fieldsOutcome answerBy outputBy answerOf outputAfter writeAnswer writeOutput newAnswer newOutput otherByte backOutcome oldAnswer oldOutput besideFields newFields newOutcome lowestPermitted noTasks refusedReading multipleTo hyperperiodOf demandOf badPeriod badBudget badCost exceeds besideOutcome taskSetOf acceptedReading readingBy readingOf precedes twins isEmpty someEmptyTwin tried xor permitted permittedCount allowed unfit everyCore everyAffinity badAffinity barredAt someTied factorFor sumOfProducts upFrom choices stepInto storedAfter boundAfter entered tryAll visit trace stored answer tableAnswer tableProblem orderOf verdictOf allocationOf planFor refusedPlan planBy planOf verdictOutcome slotTest firstSlot owedFor release releaseAll chosen advanceAll stepped refusedTick tick freshSlot freshSlots loadOf aboveAt refusedStart startBy placingOutcome startOf front digitsBy decimal field refusalLine sizesLine taskLine taskLines tableLines verdictWord summaryLine planLines printed outputOf lowestFit fitFrom firstFit tableFit quickPlacement quickFor refusedQuick quickBy quickOf stepCeiling ceilingBy ceilingOf quickSummary quickLines quickOutputOf
 opened = 0
 
 base-hold : AllHold rows
@@ -73,9 +73,9 @@ ties-hold : AllHold ties
 unfolding opened ties
 ties-hold = (refl, (refl, (refl, (refl, (refl, (refl, (refl, (refl, (refl, (refl, (refl, ((refl, refl), ((refl, refl), ((refl, refl), ((refl, refl), ((refl, refl), ((refl, refl), ((refl, refl), ((refl, refl), ((refl, refl), (refl, tt)))))))))))))))))))))
 
-setups-hold : AllHold setups
-unfolding opened setups
-setups-hold = ((refl, refl, refl), (refl, (refl, (refl, (refl, (refl, (refl, (refl, ((refl, refl), ((refl, refl), ((refl, refl), ((refl, refl), ((refl, refl), tt)))))))))))))
+newTables-hold : AllHold newTables
+unfolding opened newTables
+newTables-hold = ((refl, refl, refl), (refl, (refl, (refl, (refl, (refl, (refl, (refl, ((refl, refl), ((refl, refl), ((refl, refl), ((refl, refl), ((refl, refl), tt)))))))))))))
 
 moves-hold : AllHold moves
 unfolding opened moves
@@ -89,6 +89,6 @@ rows-hold = record {
   empty-cores = emptyCores-hold;
   switch-charges = charges-hold;
   core-bytes = ties-hold;
-  new-form = setups-hold;
+  new-form = newTables-hold;
   moved-tables = moves-hold;
 }

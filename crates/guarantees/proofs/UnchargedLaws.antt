@@ -9,9 +9,9 @@ use Rattle.taskset.specs.Reading.{taskSetOf}
 use Rattle.taskset.specs.Table.{Table, Sound}
 use Rattle.taskset.specs.declared.Fields.{Fields}
 use Rattle.taskset.proofs.LimitLaws.{cost-uncharged, charge-uncharged, costs-uncharged, row-every, affinity-every}
-use Rattle.stored.specs.Form.{fieldsOf}
-use Rattle.stored.specs.Limits.{beside, alone}
-use Rattle.stored.proofs.FormLaws.{every-listed, every-affinity}
+use Rattle.oldform.specs.Form.{besideFields}
+use Rattle.oldform.specs.Limits.{beside, alone}
+use Rattle.oldform.proofs.FormLaws.{every-listed, every-affinity}
 use Rattle.planner.proofs.PromiseLaws.{walk-rule}
 use Rattle.ceiling.proofs.PromiseLaws.{ceiling-promise}
 use Rattle.edf.specs.Tick.{owedFor}
@@ -54,7 +54,7 @@ untied-ceiling {t} s v e = ceiling-promise s refl .valid v .free (all-permitted 
 -- ---- both
 
 pub alone-is : Alone
-unfolding alone beside fieldsOf
+unfolding alone beside besideFields
 alone-is = record {
   fields = λ table. refl;
   outcome = λ table. refl;

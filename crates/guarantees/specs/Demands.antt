@@ -19,9 +19,9 @@ use Rattle.taskset.specs.Reading.{taskSetOf}
 use Rattle.taskset.specs.Limits.{Sized, Within, chargeAbove, budgetOutside, costAbove, rowOther, affinityUnfit, Reads}
 use Rattle.taskset.specs.Table.{Table, readingOf, Decided, Sound}
 use Rattle.taskset.specs.declared.Fields.{Fields}
-use Rattle.stored.specs.Form.{everyAffinity}
-use Rattle.stored.specs.Limits.{beside, alone}
-use Rattle.setup.specs.Limits.{new, ReadsSetup}
+use Rattle.oldform.specs.Form.{everyAffinity}
+use Rattle.oldform.specs.Limits.{beside, alone}
+use Rattle.newform.specs.Limits.{new, ReadsNew}
 use Rattle.allocation.specs.EntryRule.{Twins}
 use Rattle.allocation.specs.TableOrder.{inPlanningOrder}
 use Rattle.planning.specs.Problem.{tableProblem, orderOf}
@@ -53,7 +53,7 @@ pub record SoundForms : Type 0 where
   pub alones : (table : List ℕ) → Sound (alone table)
   pub news : (table : List ℕ) → Sound (new table)
   -- What the reader of the new form accepts stands in the bytes, each part at its place, and is 0 beyond n.
-  pub stored : (table : List ℕ) → ReadsSetup table (readingOf (new table))
+  pub stored : (table : List ℕ) → ReadsNew table (readingOf (new table))
 
 -- Demand 1. The first two sentences are of the planner; the second is said of every other call as well.
 pub record DemandOne (t : Table) : Type 0 where

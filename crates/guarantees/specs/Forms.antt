@@ -10,13 +10,13 @@ use Rattle.taskset.specs.Fields.{cut, Alike}
 use Rattle.taskset.specs.Reading.{acceptedReading}
 use Rattle.taskset.specs.declared.Fields.{Fields}
 use Rattle.taskset.specs.Table.{Table, readingOf}
-use Rattle.stored.specs.Form.{fieldsAlone, tableBytes, taskCount, OldForm}
-use Rattle.stored.specs.Limits.{beside, alone}
-use Rattle.setup.specs.Form as setup
-use Rattle.setup.specs.Form.{setupFields, NewForm}
-use Rattle.setup.specs.Limits.{ValidSetup, new}
+use Rattle.oldform.specs.Form.{aloneFields, oldBytes, taskCount, OldForm}
+use Rattle.oldform.specs.Limits.{beside, alone}
+use Rattle.newform.specs.Form as newform
+use Rattle.newform.specs.Form.{newFields, NewForm}
+use Rattle.newform.specs.Limits.{ValidNew, new}
 use Rattle.transfer.specs.Calls.{writeAnswer, writeOutput, newAnswer, newOutput, oldAnswer, oldOutput}
-use Rattle.transfer.specs.Limits.{ValidWrite, writeConditions, ValidNew, newConditions, ValidOld, oldConditions}
+use Rattle.transfer.specs.Limits.{ValidWrite, writeConditions, ValidMoveOn, moveOnConditions, ValidMoveBack, moveBackConditions}
 use Rattle.transfer.specs.Promise.{Stores, storedIn, Yields}
 use Rattle.planner.specs.Plan.{planOf}
 use Rattle.quick.specs.Quick.{quickOf}
@@ -37,7 +37,7 @@ oldIn table out = storedIn (oldAnswer table (length out)) (oldOutput table out)
 
 -- a table of the new form in the old one, with its charge and its core bytes beside it
 abbrev pub besideOf : List ℕ → Table
-besideOf table = beside (tableBytes (setupFields table)) (setup.chargeByte table) (take (setup.taskCount table) (setupFields table .affinity))
+besideOf table = beside (oldBytes (newFields table)) (newform.chargeByte table) (take (newform.taskCount table) (newFields table .affinity))
 
 -- A call that is accepted: a table of bytes that the move takes to the new form, and one that the move takes back.
 pub record MovesOn (table out : List ℕ) : Type 0 where
@@ -52,15 +52,15 @@ pub record MovesBack (table out : List ℕ) : Type 0 where
 pub record Forms : Type 0 where
   -- Demand 1. A call within its limits is accepted; any other is refused with the number and place of the first condition that holds.
   pub writes : (fields : Fields) (out : List ℕ) → Decides (ValidWrite fields (length out)) (writeConditions fields (length out)) (writeAnswer fields (length out) .outcome)
-  pub moves-on : (table out : List ℕ) → Decides (ValidNew table (length out)) (newConditions table (length out)) (newAnswer table (length out) .outcome)
-  pub moves-back : (table out : List ℕ) → Decides (ValidOld table (length out)) (oldConditions table (length out)) (oldAnswer table (length out) .outcome)
+  pub moves-on : (table out : List ℕ) → Decides (ValidMoveOn table (length out)) (moveOnConditions table (length out)) (newAnswer table (length out) .outcome)
+  pub moves-back : (table out : List ℕ) → Decides (ValidMoveBack table (length out)) (moveBackConditions table (length out)) (oldAnswer table (length out) .outcome)
   -- An accepted call puts its table in front of the lent output and leaves every byte behind it; a refused one leaves the whole output, and its length is 0.
   pub written : (fields : Fields) (out : List ℕ) → Stores (NewForm fields) (4 + 9 * fields .n) out (writeAnswer fields (length out)) (writeOutput fields out)
-  pub moved-on : (table out : List ℕ) → Stores (NewForm (fieldsAlone table)) (4 + 9 * taskCount table) out (newAnswer table (length out)) (newOutput table out)
-  pub moved-back : (table out : List ℕ) → Stores (OldForm (setupFields table)) (2 + 8 * setup.taskCount table) out (oldAnswer table (length out)) (oldOutput table out)
+  pub moved-on : (table out : List ℕ) → Stores (NewForm (aloneFields table)) (4 + 9 * taskCount table) out (newAnswer table (length out)) (newOutput table out)
+  pub moved-back : (table out : List ℕ) → Stores (OldForm (newFields table)) (2 + 8 * newform.taskCount table) out (oldAnswer table (length out)) (oldOutput table out)
   -- Reading what the writer wrote gives its fields, with 0 beyond n; writing what was read gives the bytes.
   pub read-back : (fields : Fields) (out : List ℕ) → writeAnswer fields (length out) .outcome ≡ Accepted → readingOf (new (writtenIn fields out)) ≡ acceptedReading (cut fields)
-  pub write-back : (table : List ℕ) → Bytes table → ValidSetup table → Yields (writeAnswer (setupFields table)) (writeOutput (setupFields table)) table
+  pub write-back : (table : List ℕ) → Bytes table → ValidNew table → Yields (writeAnswer (newFields table)) (writeOutput (newFields table)) table
   -- The writer reads nothing beyond n: fields that are equal up to n give the same answer and output.
   pub unread : (f g : Fields) → Alike f g → (out : List ℕ) → (writeAnswer g (length out) ≡ writeAnswer f (length out)) × (writeOutput g out ≡ writeOutput f out)
   -- Old to new to old gives the same bytes, and so does new to old to new where the move back is accepted.

@@ -9,10 +9,10 @@ use Rattle.refusal.specs.Conditions.{Gives}
 use Rattle.refusal.specs.declared.Outcome.the-variants.{Accepted}
 use Rattle.taskset.specs.Table.{readingOf}
 use Rattle.taskset.specs.declared.Fields.{Fields}
-use Rattle.stored.specs.Form.{tableOf, everyAffinity}
-use Rattle.stored.specs.Limits.{beside}
-use Rattle.setup.specs.Form.{setupOf}
-use Rattle.setup.specs.Limits.{new}
+use Rattle.oldform.specs.Form.{oldTable, everyAffinity}
+use Rattle.oldform.specs.Limits.{beside}
+use Rattle.newform.specs.Form.{newTable}
+use Rattle.newform.specs.Limits.{new}
 use Rattle.transfer.specs.Calls.{writeAnswer, writeOutput, newAnswer, newOutput, oldAnswer, oldOutput}
 use Rattle.transfer.specs.declared.Transfer.{Transfer}
 use Rattle.planner.specs.Plan.{planOf, verdictOutcome}
@@ -106,35 +106,35 @@ AllHold (r ∷ rs) = Holds 0 everyAffinity r × AllHold rs
 
 -- the table of the listing, and that of row c
 abbrev pub listing : List ℕ
-listing = tableOf 1 (10 ∷ 10 ∷ 10 ∷ []) (7 ∷ 6 ∷ 4 ∷ [])
+listing = oldTable 1 (10 ∷ 10 ∷ 10 ∷ []) (7 ∷ 6 ∷ 4 ∷ [])
 
 abbrev pub rowC : List ℕ
-rowC = tableOf 1 (2 ∷ 3 ∷ 6 ∷ []) (1 ∷ 1 ∷ 1 ∷ [])
+rowC = oldTable 1 (2 ∷ 3 ∷ 6 ∷ []) (1 ∷ 1 ∷ 1 ∷ [])
 
 -- those of rows a and d, and one whose six tasks fill its two cores
 abbrev pub rowA : List ℕ
-rowA = tableOf 1 (10 ∷ 10 ∷ []) (3 ∷ 7 ∷ [])
+rowA = oldTable 1 (10 ∷ 10 ∷ []) (3 ∷ 7 ∷ [])
 
 abbrev pub rowD : List ℕ
-rowD = tableOf 2 (10 ∷ 10 ∷ 10 ∷ 10 ∷ 10 ∷ []) (5 ∷ 5 ∷ 4 ∷ 3 ∷ 3 ∷ [])
+rowD = oldTable 2 (10 ∷ 10 ∷ 10 ∷ 10 ∷ 10 ∷ []) (5 ∷ 5 ∷ 4 ∷ 3 ∷ 3 ∷ [])
 
 abbrev pub packed : List ℕ
-packed = tableOf 2 (10 ∷ 10 ∷ 10 ∷ 10 ∷ 10 ∷ 10 ∷ []) (5 ∷ 4 ∷ 3 ∷ 3 ∷ 3 ∷ 2 ∷ [])
+packed = oldTable 2 (10 ∷ 10 ∷ 10 ∷ 10 ∷ 10 ∷ 10 ∷ []) (5 ∷ 4 ∷ 3 ∷ 3 ∷ 3 ∷ 2 ∷ [])
 
 -- one in the new form, whose weights are no times: two tasks of weights 4 and 7 on a core that holds 10
 abbrev pub crowded : List ℕ
-crowded = setupOf 1 0 (5 ∷ 10 ∷ []) (2 ∷ 7 ∷ []) (1 ∷ 1 ∷ [])
+crowded = newTable 1 0 (5 ∷ 10 ∷ []) (2 ∷ 7 ∷ []) (1 ∷ 1 ∷ [])
 
 -- five tasks of which no two fit together, on four cores; seven tasks on three
 abbrev pub five : List ℕ
-five = tableOf 4 (10 ∷ 10 ∷ 10 ∷ 10 ∷ 10 ∷ []) (6 ∷ 6 ∷ 6 ∷ 6 ∷ 6 ∷ [])
+five = oldTable 4 (10 ∷ 10 ∷ 10 ∷ 10 ∷ 10 ∷ []) (6 ∷ 6 ∷ 6 ∷ 6 ∷ 6 ∷ [])
 
 abbrev pub seven : List ℕ
-seven = tableOf 3 (10 ∷ 10 ∷ 10 ∷ 10 ∷ 10 ∷ 10 ∷ 10 ∷ []) (9 ∷ 8 ∷ 6 ∷ 6 ∷ 5 ∷ 4 ∷ 3 ∷ [])
+seven = oldTable 3 (10 ∷ 10 ∷ 10 ∷ 10 ∷ 10 ∷ 10 ∷ 10 ∷ []) (9 ∷ 8 ∷ 6 ∷ 6 ∷ 5 ∷ 4 ∷ 3 ∷ [])
 
 -- two tasks that no core holds together, of weights 50 and 55 of 100; with charge 1 they are 60 and 56
 abbrev pub swapped : List ℕ
-swapped = tableOf 2 (10 ∷ 100 ∷ []) (5 ∷ 55 ∷ [])
+swapped = oldTable 2 (10 ∷ 100 ∷ []) (5 ∷ 55 ∷ [])
 
 -- sixteen requests: full ones, and the same with none from task 1
 abbrev pub full : List ℕ
@@ -152,14 +152,14 @@ front slots = slots ++ replicate (16 - length slots) emptySlot
 
 -- two and three full tasks on as many cores
 abbrev pub two : List ℕ
-two = tableOf 2 (4 ∷ 4 ∷ []) (4 ∷ 4 ∷ [])
+two = oldTable 2 (4 ∷ 4 ∷ []) (4 ∷ 4 ∷ [])
 
 abbrev pub three : List ℕ
-three = tableOf 3 (4 ∷ 4 ∷ 4 ∷ []) (4 ∷ 4 ∷ 4 ∷ [])
+three = oldTable 3 (4 ∷ 4 ∷ 4 ∷ []) (4 ∷ 4 ∷ 4 ∷ [])
 
 -- three tasks of these times on two cores
 abbrev pub loose : ℕ → ℕ → ℕ → List ℕ
-loose a b c = tableOf 2 (10 ∷ 10 ∷ 10 ∷ []) (a ∷ b ∷ c ∷ [])
+loose a b c = oldTable 2 (10 ∷ 10 ∷ 10 ∷ []) (a ∷ b ∷ c ∷ [])
 
 -- the listing's table in both forms, byte by byte
 abbrev pub oldListing : List ℕ
@@ -200,7 +200,7 @@ moves =
     ∷ stores (write (boardFields 0 (replicate 13 255))) (replicate 33 9) 31 (board ++ 9 ∷ 9 ∷ [])
     ∷ refusesStore (toOld (0 ∷ 1 ∷ 2 ∷ 0 ∷ 10 ∷ 0 ∷ 0 ∷ 0 ∷ 7 ∷ 0 ∷ 0 ∷ 0 ∷ 1 ∷ [])) (replicate 10 9) 18 0
     ∷ refusesStore (toOld (0 ∷ 1 ∷ 1 ∷ 1 ∷ 10 ∷ 0 ∷ 0 ∷ 0 ∷ 7 ∷ 0 ∷ 0 ∷ 0 ∷ 1 ∷ [])) [] 18 0
-    ∷ refusesStore (toOld (setupOf 2 1 (1000 ∷ 1001 ∷ []) (1 ∷ 1 ∷ []) (3 ∷ 1 ∷ []))) [] 7 2
+    ∷ refusesStore (toOld (newTable 2 1 (1000 ∷ 1001 ∷ []) (1 ∷ 1 ∷ []) (3 ∷ 1 ∷ []))) [] 7 2
     ∷ refusesStore (toOld newListing) (replicate 25 9) 8 0
     ∷ refusesStore (toNew oldListing) (replicate 30 9) 8 0
     ∷ refusesStore (write (boardFields 0 [])) (replicate 30 9) 8 0
@@ -214,21 +214,21 @@ moves =
 -- The new form, read and printed. Three tasks of which each number stands in its own place. Fewer than 4 bytes are refused before the first byte is
 -- looked at, an old table by its first byte, before a size; a table of the old form's length by its length; a charge after that and before a
 -- period; a byte with a bit above core m for its task. Both programs go by the charge and the core bytes of the table.
-unfoldable pub setups : List Row
-setups =
+unfoldable pub newTables : List Row
+newTables =
     readsNew board (boardFields 3 (replicate 13 0)) 300
     ∷ prints board "table 3 2 300\n1 10 5 2 1 2\n2 20 8 1 2 1\n3 300 140 0 1 1\nshort 144 3\n"
-    ∷ printsQuick (setupOf 2 0 (4 ∷ 4 ∷ []) (4 ∷ 4 ∷ []) (3 ∷ 1 ∷ [])) "table 2 2 4\n1 4 4 1 2 1\n2 4 4 0 1 1\nquick 4\n"
+    ∷ printsQuick (newTable 2 0 (4 ∷ 4 ∷ []) (4 ∷ 4 ∷ []) (3 ∷ 1 ∷ [])) "table 2 2 4\n1 4 4 1 2 1\n2 4 4 0 1 1\nquick 4\n"
     ∷ prints (5 ∷ 1 ∷ 1 ∷ []) "refused 1 0\n"
     ∷ prints listing "refused 17 0\n"
     ∷ prints (0 ∷ 1 ∷ 1 ∷ 0 ∷ 10 ∷ 0 ∷ 0 ∷ 0 ∷ 1 ∷ 0 ∷ []) "refused 4 0\n"
-    ∷ prints (setupOf 1 10 (0 ∷ []) (1 ∷ []) (1 ∷ [])) "refused 13 0\n"
-    ∷ prints (setupOf 2 0 (1000 ∷ 1001 ∷ 10 ∷ []) (1 ∷ 1 ∷ 1 ∷ []) (3 ∷ 1 ∷ 4 ∷ [])) "refused 15 3\n"
+    ∷ prints (newTable 1 10 (0 ∷ []) (1 ∷ []) (1 ∷ [])) "refused 13 0\n"
+    ∷ prints (newTable 2 0 (1000 ∷ 1001 ∷ 10 ∷ []) (1 ∷ 1 ∷ 1 ∷ []) (3 ∷ 1 ∷ 4 ∷ [])) "refused 15 3\n"
     ∷ refusesNew (1 ∷ 17 ∷ 5 ∷ 10 ∷ []) 17 0
     ∷ refusesNew (0 ∷ 17 ∷ 5 ∷ 10 ∷ []) 2 0
     ∷ refusesNew (0 ∷ 1 ∷ 5 ∷ 10 ∷ []) 3 0
     ∷ refusesNew (0 ∷ 1 ∷ 4 ∷ 10 ∷ []) 4 0
-    ∷ refusesNew (setupOf 1 4 (10 ∷ 10 ∷ []) (6 ∷ 7 ∷ []) (1 ∷ 0 ∷ [])) 14 2
+    ∷ refusesNew (newTable 1 4 (10 ∷ 10 ∷ []) (6 ∷ 7 ∷ []) (1 ∷ 0 ∷ [])) 14 2
     ∷ []
 
 -- Tasks tied to cores. Two full tasks that want each other's core: the rule of the empty core alone would lose the plan. Three full tasks, of which
@@ -241,21 +241,21 @@ unfoldable pub ties : List Row
 ties =
     tied (2 ∷ 1 ∷ []) (plans two 1000000 All (2 ∷ 1 ∷ []) 0 2)
     ∷ tied (3 ∷ 6 ∷ 1 ∷ []) (plans three 1000000 All (2 ∷ 3 ∷ 1 ∷ []) 0 7)
-    ∷ tied (5 ∷ 2 ∷ 2 ∷ []) (plans (tableOf 3 (4 ∷ 4 ∷ 4 ∷ []) (1 ∷ 1 ∷ 4 ∷ [])) 1000000 Short (1 ∷ 0 ∷ 2 ∷ []) 1 3)
+    ∷ tied (5 ∷ 2 ∷ 2 ∷ []) (plans (oldTable 3 (4 ∷ 4 ∷ 4 ∷ []) (1 ∷ 1 ∷ 4 ∷ [])) 1000000 Short (1 ∷ 0 ∷ 2 ∷ []) 1 3)
     ∷ tied (3 ∷ 1 ∷ []) (plans two 1000000 All (2 ∷ 1 ∷ []) 0 4)
     ∷ tied (3 ∷ 1 ∷ []) (plans two 2 Spent (1 ∷ 0 ∷ []) 4 2)
     ∷ tied (3 ∷ 1 ∷ []) (quick two (1 ∷ 0 ∷ []) 4)
     ∷ plans two 1000000 All (1 ∷ 2 ∷ []) 0 2
-    ∷ ceilings (tableOf 3 (10 ∷ 10 ∷ []) (2 ∷ 1 ∷ [])) 8
-    ∷ tied (7 ∷ 3 ∷ []) (ceilings (tableOf 3 (10 ∷ 10 ∷ []) (2 ∷ 1 ∷ [])) 16)
+    ∷ ceilings (oldTable 3 (10 ∷ 10 ∷ []) (2 ∷ 1 ∷ [])) 8
+    ∷ tied (7 ∷ 3 ∷ []) (ceilings (oldTable 3 (10 ∷ 10 ∷ []) (2 ∷ 1 ∷ [])) 16)
     ∷ tied (1 ∷ 3 ∷ 3 ∷ []) (ceilings (loose 1 3 2) 30)
     ∷ tied (1 ∷ 3 ∷ 3 ∷ []) (ceilings (loose 3 1 2) 26)
     ∷ tied (1 ∷ 3 ∷ 3 ∷ 3 ∷ []) (refuses (loose 1 3 2) 1000000 15 0)
     ∷ tied (0 ∷ 3 ∷ []) (refuses (loose 1 3 2) 1000000 15 0)
     ∷ tied (1 ∷ 0 ∷ 4 ∷ []) (refuses (loose 1 3 2) 1000000 15 2)
     ∷ tied (3 ∷ 3 ∷ 4 ∷ []) (refuses (loose 1 3 2) 1000000 15 3)
-    ∷ tied (15 ∷ 16 ∷ []) (refuses (tableOf 4 (1000 ∷ 1001 ∷ []) (1 ∷ 1 ∷ [])) 1000000 15 2)
-    ∷ charged 1 (tied (0 ∷ []) (refuses (tableOf 1 (1000 ∷ 1001 ∷ []) (1 ∷ 1001 ∷ [])) 1000000 14 2))
+    ∷ tied (15 ∷ 16 ∷ []) (refuses (oldTable 4 (1000 ∷ 1001 ∷ []) (1 ∷ 1 ∷ [])) 1000000 15 2)
+    ∷ charged 1 (tied (0 ∷ []) (refuses (oldTable 1 (1000 ∷ 1001 ∷ []) (1 ∷ 1001 ∷ [])) 1000000 14 2))
     ∷ tied (3 ∷ 1 ∷ 3 ∷ []) (refusesCore (loose 1 3 2) (1 ∷ 2 ∷ 3 ∷ []) 1 9 3)
     ∷ tied (3 ∷ 1 ∷ 3 ∷ []) (refusesCore (loose 1 3 2) (1 ∷ 2 ∷ 2 ∷ []) 1 16 2)
     ∷ tied (3 ∷ 1 ∷ 2 ∷ []) (refusesCore (loose 1 3 2) (1 ∷ 0 ∷ 1 ∷ []) 7 16 3)
@@ -275,18 +275,18 @@ charges =
     ∷ plans swapped 1000000 All (2 ∷ 1 ∷ []) 0 2
     ∷ charged 1 (plans swapped 1000000 All (1 ∷ 2 ∷ []) 0 2)
     ∷ charged 1 (quick swapped (1 ∷ 2 ∷ []) 0)
-    ∷ charged 9 (plans (tableOf 1 (10 ∷ []) (1 ∷ [])) 1000000 All (1 ∷ []) 0 1)
-    ∷ charged 9 (starts (tableOf 2 (10 ∷ []) (1 ∷ [])) (1 ∷ []) 2 (front []))
-    ∷ charged 9 (ceilings (tableOf 2 (10 ∷ []) (1 ∷ [])) 2)
-    ∷ charged 1 (ticks (tableOf 1 (5 ∷ []) (2 ∷ [])) (1 ∷ []) 1 (replicate 5 (replicate 16 0) ++ replicate 5 (replicate 16 1) ++ replicate 5 full)
+    ∷ charged 9 (plans (oldTable 1 (10 ∷ []) (1 ∷ [])) 1000000 All (1 ∷ []) 0 1)
+    ∷ charged 9 (starts (oldTable 2 (10 ∷ []) (1 ∷ [])) (1 ∷ []) 2 (front []))
+    ∷ charged 9 (ceilings (oldTable 2 (10 ∷ []) (1 ∷ [])) 2)
+    ∷ charged 1 (ticks (oldTable 1 (5 ∷ []) (2 ∷ [])) (1 ∷ []) 1 (replicate 5 (replicate 16 0) ++ replicate 5 (replicate 16 1) ++ replicate 5 full)
     (0 ∷ 0 ∷ 0 ∷ 0 ∷ 0 ∷ 1 ∷ 1 ∷ 0 ∷ 0 ∷ 0 ∷ 1 ∷ 1 ∷ 1 ∷ 0 ∷ 0 ∷ []))
     ∷ charged 2 (tickOnce (front (slot 9 3 0 5 ∷ slot 9 3 4 0 ∷ [])) full 1 1 (front (slot 9 3 8 4 ∷ slot 9 3 3 0 ∷ [])))
     ∷ charged 10 (refuses (1 ∷ 1 ∷ []) 1000000 4 0)
-    ∷ charged 10 (refuses (tableOf 1 (0 ∷ []) (1 ∷ [])) 1000000 13 0)
+    ∷ charged 10 (refuses (oldTable 1 (0 ∷ []) (1 ∷ [])) 1000000 13 0)
     ∷ charged 4294967295 (refuses rowA 1000000 13 0)
-    ∷ charged 4 (refuses (tableOf 1 (10 ∷ 10 ∷ []) (7 ∷ 0 ∷ [])) 1000000 6 2)
+    ∷ charged 4 (refuses (oldTable 1 (10 ∷ 10 ∷ []) (7 ∷ 0 ∷ [])) 1000000 6 2)
     ∷ charged 4 (refuses rowA 1000000 14 2)
-    ∷ charged 1 (refuses (tableOf 1 (1000 ∷ 1001 ∷ []) (1 ∷ 1001 ∷ [])) 1000000 14 2)
+    ∷ charged 1 (refuses (oldTable 1 (1000 ∷ 1001 ∷ []) (1 ∷ 1001 ∷ [])) 1000000 14 2)
     ∷ charged 10 (refusesTick (front (slot 0 1 0 0 ∷ [])) 0)
     ∷ charged 9 (refusesTick (front (slot 12 3 0 12 ∷ slot 12 4 0 0 ∷ [])) 2)
     ∷ []
@@ -300,12 +300,12 @@ emptyCores =
     ∷ plans seven 19 Spent (1 ∷ 2 ∷ 3 ∷ 0 ∷ 0 ∷ 3 ∷ 0 ∷ []) 14 19
     ∷ plans seven 20 Spent (1 ∷ 0 ∷ 2 ∷ 3 ∷ 0 ∷ 2 ∷ 3 ∷ []) 13 20
     ∷ plans seven 24 Short (1 ∷ 0 ∷ 2 ∷ 3 ∷ 0 ∷ 2 ∷ 3 ∷ []) 13 24
-    ∷ prints (setupOf 4 0 (replicate 5 10) (replicate 5 6) (replicate 5 15)) "table 5 4 10\n1 10 6 1 4 1\n2 10 6 2 4 1\n3 10 6 3 4 1\n4 10 6 4 4 1\n5 10 6 0 4 1\nshort 6 5\n"
+    ∷ prints (newTable 4 0 (replicate 5 10) (replicate 5 6) (replicate 5 15)) "table 5 4 10\n1 10 6 1 4 1\n2 10 6 2 4 1\n3 10 6 3 4 1\n4 10 6 4 4 1\n5 10 6 0 4 1\nshort 6 5\n"
     ∷ ceilings five 752
     ∷ ceilings seven 8192
     ∷ ceilings listing 14
     ∷ ceilings rowD 242
-    ∷ ceilings (tableOf 4 (replicate 16 10) (replicate 16 1)) 36621093752
+    ∷ ceilings (oldTable 4 (replicate 16 10) (replicate 16 1)) 36621093752
     ∷ []
 
 -- Quick plans. Row d's table, where first fit places all; six tasks that fill two cores, where first fit leaves out the last and the exact
@@ -316,13 +316,13 @@ quicks =
     quick rowD (1 ∷ 1 ∷ 2 ∷ 2 ∷ 2 ∷ []) 0
     ∷ quick packed (1 ∷ 1 ∷ 2 ∷ 2 ∷ 2 ∷ 0 ∷ []) 2
     ∷ plans packed 1000000 All (1 ∷ 2 ∷ 1 ∷ 2 ∷ 2 ∷ 1 ∷ []) 0 11
-    ∷ quick (tableOf 1 (10 ∷ 10 ∷ []) (3 ∷ 7 ∷ [])) (1 ∷ 1 ∷ []) 0
+    ∷ quick (oldTable 1 (10 ∷ 10 ∷ []) (3 ∷ 7 ∷ [])) (1 ∷ 1 ∷ []) 0
     ∷ quick listing (1 ∷ 0 ∷ 0 ∷ []) 10
-    ∷ quick (tableOf 2 (1000 ∷ 10 ∷ []) (600 ∷ 6 ∷ [])) (2 ∷ 1 ∷ []) 0
-    ∷ printsQuick (setupOf 2 0 (replicate 6 10) (5 ∷ 4 ∷ 3 ∷ 3 ∷ 3 ∷ 2 ∷ []) (replicate 6 3)) "table 6 2 10\n1 10 5 1 2 1\n2 10 4 1 2 1\n3 10 3 2 2 1\n4 10 3 2 2 1\n5 10 3 2 2 1\n6 10 2 0 2 1\nquick 2\n"
+    ∷ quick (oldTable 2 (1000 ∷ 10 ∷ []) (600 ∷ 6 ∷ [])) (2 ∷ 1 ∷ []) 0
+    ∷ printsQuick (newTable 2 0 (replicate 6 10) (5 ∷ 4 ∷ 3 ∷ 3 ∷ 3 ∷ 2 ∷ []) (replicate 6 3)) "table 6 2 10\n1 10 5 1 2 1\n2 10 4 1 2 1\n3 10 3 2 2 1\n4 10 3 2 2 1\n5 10 3 2 2 1\n6 10 2 0 2 1\nquick 2\n"
     ∷ printsQuick crowded "table 2 1 10\n1 5 2 0 1 1\n2 10 7 1 1 1\nquick 4\n"
     ∷ prints crowded "table 2 1 10\n1 5 2 0 1 1\n2 10 7 1 1 1\nshort 4 2\n"
-    ∷ printsQuick (setupOf 1 0 (1000 ∷ 1001 ∷ []) (1 ∷ 1 ∷ []) (1 ∷ 1 ∷ [])) "refused 7 2\n"
+    ∷ printsQuick (newTable 1 0 (1000 ∷ 1001 ∷ []) (1 ∷ 1 ∷ []) (1 ∷ 1 ∷ [])) "refused 7 2\n"
     ∷ []
 
 -- Of two tasks of equal weight the lower number is placed.
@@ -335,19 +335,19 @@ quicks =
 -- Slots 2 and 3 are late: the lower is reported, the rest is dropped, and the one that is due sooner runs.
 unfoldable pub more : List Row
 more =
-    plans (tableOf 1 (10 ∷ 10 ∷ []) (6 ∷ 6 ∷ [])) 1000000 Short (1 ∷ 0 ∷ []) 6 2
-    ∷ plans (tableOf 2 (1000 ∷ 10 ∷ []) (600 ∷ 6 ∷ [])) 1000000 All (2 ∷ 1 ∷ []) 0 2
-    ∷ plans (tableOf 2 (10 ∷ 10 ∷ []) (6 ∷ 6 ∷ [])) 1000000 All (1 ∷ 2 ∷ []) 0 2
-    ∷ plans (tableOf 2 (10 ∷ 1000 ∷ []) (5 ∷ 600 ∷ [])) 1000000 All (2 ∷ 1 ∷ []) 0 2
-    ∷ plans (tableOf 2 (10 ∷ 10 ∷ 10 ∷ []) (10 ∷ 10 ∷ 1 ∷ [])) 1000000 Short (1 ∷ 2 ∷ 0 ∷ []) 1 3
-    ∷ plans (tableOf 2 (10 ∷ 10 ∷ 10 ∷ 10 ∷ 10 ∷ []) (5 ∷ 5 ∷ 5 ∷ 5 ∷ 1 ∷ [])) 1000000 Short (1 ∷ 1 ∷ 2 ∷ 2 ∷ 0 ∷ []) 1 5
-    ∷ plans (tableOf 1 (10 ∷ 10 ∷ 10 ∷ 10 ∷ 10 ∷ []) (8 ∷ 6 ∷ 3 ∷ 3 ∷ 3 ∷ [])) 10 Spent (0 ∷ 1 ∷ 1 ∷ 0 ∷ 0 ∷ []) 14 10
-    ∷ ticks (tableOf 1 (3 ∷ []) (2 ∷ [])) (1 ∷ []) 1 (replicate 3 (replicate 16 1)) (1 ∷ 0 ∷ 0 ∷ [])
+    plans (oldTable 1 (10 ∷ 10 ∷ []) (6 ∷ 6 ∷ [])) 1000000 Short (1 ∷ 0 ∷ []) 6 2
+    ∷ plans (oldTable 2 (1000 ∷ 10 ∷ []) (600 ∷ 6 ∷ [])) 1000000 All (2 ∷ 1 ∷ []) 0 2
+    ∷ plans (oldTable 2 (10 ∷ 10 ∷ []) (6 ∷ 6 ∷ [])) 1000000 All (1 ∷ 2 ∷ []) 0 2
+    ∷ plans (oldTable 2 (10 ∷ 1000 ∷ []) (5 ∷ 600 ∷ [])) 1000000 All (2 ∷ 1 ∷ []) 0 2
+    ∷ plans (oldTable 2 (10 ∷ 10 ∷ 10 ∷ []) (10 ∷ 10 ∷ 1 ∷ [])) 1000000 Short (1 ∷ 2 ∷ 0 ∷ []) 1 3
+    ∷ plans (oldTable 2 (10 ∷ 10 ∷ 10 ∷ 10 ∷ 10 ∷ []) (5 ∷ 5 ∷ 5 ∷ 5 ∷ 1 ∷ [])) 1000000 Short (1 ∷ 1 ∷ 2 ∷ 2 ∷ 0 ∷ []) 1 5
+    ∷ plans (oldTable 1 (10 ∷ 10 ∷ 10 ∷ 10 ∷ 10 ∷ []) (8 ∷ 6 ∷ 3 ∷ 3 ∷ 3 ∷ [])) 10 Spent (0 ∷ 1 ∷ 1 ∷ 0 ∷ 0 ∷ []) 14 10
+    ∷ ticks (oldTable 1 (3 ∷ []) (2 ∷ [])) (1 ∷ []) 1 (replicate 3 (replicate 16 1)) (1 ∷ 0 ∷ 0 ∷ [])
     ∷ prints newListing "table 3 1 10\n1 10 7 0 1 1\n2 10 6 1 1 1\n3 10 4 1 1 1\nshort 7 6\n"
-    ∷ prints (setupOf 2 0 (replicate 5 10) (5 ∷ 5 ∷ 4 ∷ 3 ∷ 3 ∷ []) (replicate 5 3)) "table 5 2 10\n1 10 5 1 2 1\n2 10 5 1 2 1\n3 10 4 2 2 1\n4 10 3 2 2 1\n5 10 3 2 2 1\nall 0 5\n"
-    ∷ prints (setupOf 1 0 (10 ∷ 10 ∷ []) (3 ∷ 8 ∷ []) (1 ∷ 1 ∷ [])) "table 2 1 10\n1 10 3 0 1 1\n2 10 8 1 1 1\nshort 3 2\n"
-    ∷ prints (setupOf 1 0 (1000 ∷ 1001 ∷ []) (1 ∷ 1 ∷ []) (1 ∷ 1 ∷ [])) "refused 7 2\n"
-    ∷ prints (setupOf 1 0 (10 ∷ []) (11 ∷ []) (1 ∷ [])) "refused 6 1\n"
+    ∷ prints (newTable 2 0 (replicate 5 10) (5 ∷ 5 ∷ 4 ∷ 3 ∷ 3 ∷ []) (replicate 5 3)) "table 5 2 10\n1 10 5 1 2 1\n2 10 5 1 2 1\n3 10 4 2 2 1\n4 10 3 2 2 1\n5 10 3 2 2 1\nall 0 5\n"
+    ∷ prints (newTable 1 0 (10 ∷ 10 ∷ []) (3 ∷ 8 ∷ []) (1 ∷ 1 ∷ [])) "table 2 1 10\n1 10 3 0 1 1\n2 10 8 1 1 1\nshort 3 2\n"
+    ∷ prints (newTable 1 0 (1000 ∷ 1001 ∷ []) (1 ∷ 1 ∷ []) (1 ∷ 1 ∷ [])) "refused 7 2\n"
+    ∷ prints (newTable 1 0 (10 ∷ []) (11 ∷ []) (1 ∷ [])) "refused 6 1\n"
     ∷ prints (0 ∷ 17 ∷ 1 ∷ 0 ∷ []) "refused 2 0\n"
     ∷ prints [] "refused 1 0\n"
     ∷ tickOnce (front (slot 8 1 3 0 ∷ slot 10 3 0 2 ∷ slot 5 2 0 1 ∷ [])) (9 ∷ 1 ∷ 9 ∷ replicate 13 0) 3 2
@@ -358,7 +358,7 @@ more =
 unfoldable pub rows : List Row
 rows =
     plans rowA 1000000 All (1 ∷ 1 ∷ []) 0 2
-    ∷ plans (tableOf 1 (10 ∷ 10 ∷ []) (3 ∷ 8 ∷ [])) 1000000 Short (0 ∷ 1 ∷ []) 3 2
+    ∷ plans (oldTable 1 (10 ∷ 10 ∷ []) (3 ∷ 8 ∷ [])) 1000000 Short (0 ∷ 1 ∷ []) 3 2
     ∷ frames rowC 6
     ∷ plans rowC 1000000 All (1 ∷ 1 ∷ 1 ∷ []) 0 3
     ∷ plans rowD 1000000 All (1 ∷ 1 ∷ 2 ∷ 2 ∷ 2 ∷ []) 0 5
@@ -367,7 +367,7 @@ rows =
     ∷ plans listing 0 Spent (0 ∷ 0 ∷ 0 ∷ []) 17 0
     ∷ ticks rowC (1 ∷ 1 ∷ 1 ∷ []) 1 (replicate 6 full) (1 ∷ 2 ∷ 1 ∷ 2 ∷ 1 ∷ 3 ∷ [])
     ∷ ticks rowC (1 ∷ 1 ∷ 1 ∷ []) 1 (full ∷ full ∷ firstSilent ∷ full ∷ full ∷ full ∷ []) (1 ∷ 2 ∷ 3 ∷ 2 ∷ 1 ∷ 0 ∷ [])
-    ∷ refuses (tableOf 1 (1000 ∷ 1001 ∷ []) (1 ∷ 1 ∷ [])) 1000000 7 2
+    ∷ refuses (oldTable 1 (1000 ∷ 1001 ∷ []) (1 ∷ 1 ∷ [])) 1000000 7 2
     ∷ []
 
 -- Every row of every list.
@@ -378,5 +378,5 @@ pub record WorkedRows : Type 0 where
   pub empty-cores : AllHold emptyCores
   pub switch-charges : AllHold charges
   pub core-bytes : AllHold ties
-  pub new-form : AllHold setups
+  pub new-form : AllHold newTables
   pub moved-tables : AllHold moves

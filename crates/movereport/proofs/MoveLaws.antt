@@ -18,13 +18,13 @@ use Rattle.text.proofs.ClipLaws.{append-whole}
 use Rattle.refusal.specs.declared.Cause.the-variants.{Buffer}
 use Rattle.taskset.specs.Table.{Table, Sound}
 use Rattle.taskset.proofs.TableLaws.{table-accepts}
-use Rattle.stored.specs.Form.{fieldsAlone, tableBytes}
-use Rattle.stored.specs.Limits.{alone}
-use Rattle.stored.proofs.BackLaws.{table-long}
-use Rattle.stored.proofs.TableLaws.{alone-sound}
-use Rattle.setup.specs.Form.{setupFields, setupBytes}
-use Rattle.setup.specs.Limits.{new}
-use Rattle.setup.proofs.BackLaws.{setup-long}
+use Rattle.oldform.specs.Form.{aloneFields, oldBytes}
+use Rattle.oldform.specs.Limits.{alone}
+use Rattle.oldform.proofs.BackLaws.{old-long}
+use Rattle.oldform.proofs.OldLaws.{alone-sound}
+use Rattle.newform.specs.Form.{newFields, newBytes}
+use Rattle.newform.specs.Limits.{new}
+use Rattle.newform.proofs.BackLaws.{new-long}
 use Rattle.transfer.specs.Lent.{answerBy, outputBy, answerOf, outputOf}
 use Rattle.transfer.specs.Calls.{newAnswer, newOutput, backOutcome, oldAnswer, oldOutput}
 use Rattle.transfer.specs.Limits.{returned}
@@ -116,27 +116,27 @@ module _ {t : Table} (sound : Sound t) (bytes out : List ℕ) (fits : t .Valid �
 -- ---- both clauses of each move
 
 module _ (s out : List ℕ) {r : Transfer} {after : List ℕ} (e : r ≡ newAnswer s (length out)) (g : after ≡ newOutput s out) (room : 148 ≤ length out) where
-  new-fits : alone s .Valid → length (setupBytes (fieldsAlone s)) ≤ length out
+  new-fits : alone s .Valid → length (newBytes (aloneFields s)) ≤ length out
   unfolding alone
-  new-fits v = omega (arith, setup-long (fieldsAlone s) (v .fields), v .fields .sizes .tasks .1)
+  new-fits v = omega (arith, new-long (aloneFields s) (v .fields), v .fields .sizes .tasks .1)
 
   pub new-length : length after ≡ length out → length out ≤ 2560 → (r .length ≤ length after) × (r .length ≤ 2560)
   unfolding newAnswer newOutput alone
-  new-length same h = length-fits (alone-sound s) (setupBytes (fieldsAlone s)) out new-fits e g same h
+  new-length same h = length-fits (alone-sound s) (newBytes (aloneFields s)) out new-fits e g same h
 
   pub new-both : {w : Moved} → Shows (storedIn r after) (printed (r .outcome) []) w → NewOutput s w × NewReported s w
-  unfolding newAnswer newOutput setupBytes alone
-  new-both x = both (alone-sound s) (setupBytes (fieldsAlone s)) out new-fits e g (omega arith) x
+  unfolding newAnswer newOutput newBytes alone
+  new-both x = both (alone-sound s) (newBytes (aloneFields s)) out new-fits e g (omega arith) x
 
 module _ (s out : List ℕ) {r : Transfer} {after : List ℕ} (e : r ≡ oldAnswer s (length out)) (g : after ≡ oldOutput s out) (room : 130 ≤ length out) where
-  old-fits : returned s .Valid → length (tableBytes (setupFields s)) ≤ length out
+  old-fits : returned s .Valid → length (oldBytes (newFields s)) ≤ length out
   unfolding returned new
-  old-fits v = omega (arith, table-long (setupFields s) (v .0 .fields), v .0 .fields .sizes .tasks .1)
+  old-fits v = omega (arith, old-long (newFields s) (v .0 .fields), v .0 .fields .sizes .tasks .1)
 
   pub old-length : length after ≡ length out → length out ≤ 2560 → (r .length ≤ length after) × (r .length ≤ 2560)
   unfolding oldAnswer oldOutput backOutcome returned new
-  old-length same h = length-fits (returned-sound s) (tableBytes (setupFields s)) out old-fits e g same h
+  old-length same h = length-fits (returned-sound s) (oldBytes (newFields s)) out old-fits e g same h
 
   pub old-both : {w : Moved} → Shows (storedIn r after) (printed (r .outcome) []) w → OldOutput s w × OldReported s w
-  unfolding oldAnswer oldOutput tableBytes backOutcome returned new
-  old-both x = both (returned-sound s) (tableBytes (setupFields s)) out old-fits e g (omega arith) x
+  unfolding oldAnswer oldOutput oldBytes backOutcome returned new
+  old-both x = both (returned-sound s) (oldBytes (newFields s)) out old-fits e g (omega arith) x

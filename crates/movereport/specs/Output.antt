@@ -6,9 +6,9 @@ use Rattle.text.specs.Shown.{shown}
 use Rattle.refusal.specs.declared.Outcome.{Outcome}
 use Rattle.refusal.specs.Tests.{byOutcome}
 use Rattle.taskset.specs.Table.{Table}
-use Rattle.stored.specs.Form.{fieldsAlone, tableBytes}
-use Rattle.stored.specs.Limits.{alone}
-use Rattle.setup.specs.Form.{setupFields, setupBytes}
+use Rattle.oldform.specs.Form.{aloneFields, oldBytes}
+use Rattle.oldform.specs.Limits.{alone}
+use Rattle.newform.specs.Form.{newFields, newBytes}
 use Rattle.transfer.specs.Limits.{returned}
 use Rattle.listing.specs.Printed.{printed}
 use Rattle.movereport.specs.declared.Moved.{Moved}
@@ -28,8 +28,8 @@ MoveOutput t bytes r = Shows (movedBytes (t .outcome) bytes) (printed (t .outcom
 
 -- of `tonew`, for the bytes of a table in the old form
 abbrev pub NewOutput : List ℕ → Moved → Type 0
-NewOutput s r = MoveOutput (alone s) (setupBytes (fieldsAlone s)) r
+NewOutput s r = MoveOutput (alone s) (newBytes (aloneFields s)) r
 
 -- of `toold`, for the bytes of a table in the new form
 abbrev pub OldOutput : List ℕ → Moved → Type 0
-OldOutput s r = MoveOutput (returned s) (tableBytes (setupFields s)) r
+OldOutput s r = MoveOutput (returned s) (oldBytes (newFields s)) r

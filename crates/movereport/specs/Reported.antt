@@ -5,9 +5,9 @@ use lib.ListN.{length}
 use Rattle.text.specs.Shown.{shown}
 use Rattle.refusal.specs.Conditions.{First}
 use Rattle.taskset.specs.Table.{Table}
-use Rattle.stored.specs.Form.{fieldsAlone, tableBytes}
-use Rattle.stored.specs.Limits.{alone}
-use Rattle.setup.specs.Form.{setupFields, setupBytes}
+use Rattle.oldform.specs.Form.{aloneFields, oldBytes}
+use Rattle.oldform.specs.Limits.{alone}
+use Rattle.newform.specs.Form.{newFields, newBytes}
 use Rattle.transfer.specs.Limits.{returned}
 use Rattle.listing.specs.Lines.{refusalLine}
 use Rattle.movereport.specs.Output.{Shows}
@@ -22,9 +22,9 @@ pub record MoveReported (t : Table) (bytes : List ℕ) (r : Moved) : Type 0 wher
 
 -- `tonew`: every valid table of the old form; numbers 1 to 7
 abbrev pub NewReported : List ℕ → Moved → Type 0
-NewReported s r = MoveReported (alone s) (setupBytes (fieldsAlone s)) r
+NewReported s r = MoveReported (alone s) (newBytes (aloneFields s)) r
 
 -- `toold`: every table of the new form that the old one has a place for, charge 0 and every core permitted to each task; the new form's
 -- numbers, then 18
 abbrev pub OldReported : List ℕ → Moved → Type 0
-OldReported s r = MoveReported (returned s) (tableBytes (setupFields s)) r
+OldReported s r = MoveReported (returned s) (oldBytes (newFields s)) r

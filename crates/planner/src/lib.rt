@@ -2,7 +2,7 @@
 ghost use mathlib.Core.Path.{_≡_};
 ghost use Rattle.taskset.specs.Limits.{Checked, Reads};
 ghost use Rattle.taskset.specs.Table.{Decided};
-ghost use Rattle.stored.specs.Limits.{beside};
+ghost use Rattle.oldform.specs.Limits.{beside};
 ghost use Rattle.planner.specs.Plan.{verdictOf, planFor, refusedPlan, planBy, planOf, verdictOutcome};
 ghost use Rattle.planner.specs.Promise.{Plans};
 use refusal::Cause;
@@ -107,6 +107,6 @@ pub fn plan(table: &[u8], charge: u32, affinity: &[u8], limit: u32) -> Allocatio
     ensures decides { λ r. ⌜ Decided (beside (now (table .entry)) charge (now (affinity .entry))) (verdictOutcome (r .verdict)) ⌝ }
     ensures plans { λ r. ⌜ Plans (beside (now (table .entry)) charge (now (affinity .entry))) limit r ⌝ }
 {
-    let reading = stored::read_beside(table, charge, affinity);
+    let reading = oldform::read_beside(table, charge, affinity);
     plan_read(reading, limit)
 }

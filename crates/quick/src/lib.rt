@@ -2,7 +2,7 @@
 ghost use mathlib.Core.Path.{_≡_};
 ghost use Rattle.taskset.specs.Limits.{Checked, Reads};
 ghost use Rattle.taskset.specs.Table.{Decided};
-ghost use Rattle.stored.specs.Limits.{beside};
+ghost use Rattle.oldform.specs.Limits.{beside};
 ghost use Rattle.quick.specs.Quick.{quickFor, refusedQuick, quickBy, quickOf};
 ghost use Rattle.quick.specs.Promise.{Fits};
 use refusal::Cause;
@@ -67,6 +67,6 @@ pub fn quick_plan(table: &[u8], charge: u32, affinity: &[u8]) -> QuickPlan
     ensures decides { λ r. ⌜ Decided (beside (now (table .entry)) charge (now (affinity .entry))) (r .outcome) ⌝ }
     ensures fits { λ r. ⌜ Fits (beside (now (table .entry)) charge (now (affinity .entry))) r ⌝ }
 {
-    let reading = stored::read_beside(table, charge, affinity);
+    let reading = oldform::read_beside(table, charge, affinity);
     quick_read(reading)
 }

@@ -22,7 +22,7 @@ use Rattle.allocation.specs.Placement.{problemOf, total, excess}
 use Rattle.allocation.specs.Rule.{tellsApart, twins, areTwins, isEmpty, someEmptyTwin, tried}
 use Rattle.allocation.specs.Walk.{entered}
 use Rattle.allocation.proofs.Order.{choice-core, choice-none}
-use Rattle.moves.specs.Entry.{twinRows, someZeroTwin}
+use Rattle.branch.specs.Entry.{twinRows, someZeroTwin}
 use Rattle.search.specs.Search.{Ranges}
 use Rattle.search.proofs.State.{Job, problem, Fixed, Locals, held, Walking, Improving, Looked, path-room, load-next}
 

@@ -45,7 +45,7 @@ fn walk(
         'choices: loop {
             let mut c = 0u32;
             if next < m {
-                if !moves::has_room(
+                if !branch::has_room(
                     affinity[depth],
                     next,
                     loads[next as usize],
@@ -56,7 +56,7 @@ fn walk(
                     continue 'choices;
                 }
                 // An empty core is passed over where a lower twin is empty too.
-                if loads[next as usize] == 0 && moves::some_empty_twin(&loads, &twins, next) {
+                if loads[next as usize] == 0 && branch::some_empty_twin(&loads, &twins, next) {
                     next += 1;
                     continue 'choices;
                 }
@@ -68,9 +68,9 @@ fn walk(
                 }
                 depth -= 1;
                 let last = path[depth] as u32;
-                loads = moves::with_less(loads, last, demands[depth]);
-                out -= moves::pick(last, 0, demands[depth], 0);
-                next = moves::resume(m, last, out, bound);
+                loads = branch::with_less(loads, last, demands[depth]);
+                out -= branch::pick(last, 0, demands[depth], 0);
+                next = branch::resume(m, last, out, bound);
                 break 'choices;
             }
             // Choice c is entered.
@@ -79,17 +79,17 @@ fn walk(
                 break 'tasks;
             }
             steps += 1;
-            path = moves::with_choice(path, (depth % 256) as u8, c as u8);
+            path = branch::with_choice(path, (depth % 256) as u8, c as u8);
             if depth < deepest {
-                loads = moves::with_more(loads, c, demands[depth]);
-                out += moves::pick(c, 0, demands[depth], 0);
+                loads = branch::with_more(loads, c, demands[depth]);
+                out += branch::pick(c, 0, demands[depth], 0);
                 depth += 1;
                 next = 0;
                 break 'choices;
             }
             // The last task's choice completes a placement.
             best = path;
-            rejected = out + moves::pick(c, 0, demands[depth], 0);
+            rejected = out + branch::pick(c, 0, demands[depth], 0);
             bound = rejected;
             // No placement rejects less than the excess: nothing is entered any more.
             if bound <= excess {
@@ -119,9 +119,9 @@ pub fn search(
     requires { ⌜ Ranges demands n m h ⌝ }
     ensures { λ r. ⌜ r ≡ foundOf (answer (problemOf h m (take n demands) (take n affinity)) limit) ⌝ }
 {
-    let total = moves::total_demand(demands, n);
-    let excess = moves::excess_of(total, m, h);
-    let twins = moves::twin_rows(affinity, n);
+    let total = branch::total_demand(demands, n);
+    let excess = branch::excess_of(total, m, h);
+    let twins = branch::twin_rows(affinity, n);
     walk(
         demands,
         affinity,

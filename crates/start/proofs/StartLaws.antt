@@ -37,10 +37,10 @@ use Rattle.taskset.specs.Limits.{Within, Exact}
 use Rattle.taskset.proofs.DemandLaws.{taskSet-exact}
 use Rattle.taskset.specs.Table.{Table, readingOf, Decided, Sound}
 use Rattle.taskset.proofs.TableLaws.{also-sound, table-accepts, read-outcome, read-tasks}
-use Rattle.stored.specs.Form.{fieldsAlone}
-use Rattle.stored.specs.Limits.{alone}
-use Rattle.stored.proofs.FormLaws.{every-affinity}
-use Rattle.stored.proofs.TableLaws.{table-tested-alone, alone-sound, alone-sized}
+use Rattle.oldform.specs.Form.{aloneFields}
+use Rattle.oldform.specs.Limits.{alone}
+use Rattle.oldform.proofs.FormLaws.{every-affinity}
+use Rattle.oldform.proofs.OldLaws.{alone-tested, alone-sound, alone-sized}
 use Rattle.edf.specs.declared.Slot.{Slot}
 use Rattle.edf.specs.Slots.{emptySlot, slotAt}
 use Rattle.edf.specs.Fresh.{freshSlot, freshSlots}
@@ -205,9 +205,9 @@ pub start-alone : (table placement : List ℕ) (core : ℕ)
 unfolding startOf taskSetOf alone
 start-alone table placement core =
     rw (by-outcome (alone-sound table) placement core _)
-    (decides (join-after (table-tested-alone table) (λ n.
+    (decides (join-after (alone-tested table) (λ n.
     let z = alone-sized table n in
-    placing-tested-alone (taskSetOf (fieldsAlone table)) placement core (z .cores .1) (every-affinity table 0 (z .tasks .1)))))
+    placing-tested-alone (taskSetOf (aloneFields table)) placement core (z .cores .1) (every-affinity table 0 (z .tasks .1)))))
 
 -- The answer for a checked task set, by the outcome of its tests.
 module _ (t : TaskSet) (placement : List ℕ) (core : ℕ) {o : Outcome} (p : o ≡ placingOutcome t placement core) where

@@ -8,7 +8,7 @@ ghost use Rattle.numbers.specs.First.{first};
 ghost use Rattle.edf.specs.Fresh.{slotFor, freshSlots};
 ghost use Rattle.taskset.specs.Limits.{Checked};
 ghost use Rattle.taskset.specs.Table.{Decided};
-ghost use Rattle.stored.specs.Limits.{beside};
+ghost use Rattle.oldform.specs.Limits.{beside};
 ghost use Rattle.start.specs.Starts.{placedTasks, loadOf, placesTest, aboveAt, entriesTest, barredAt, permittedTest, coreTest, loadTest, placingOutcome, refusedStart, startBy, startOf};
 ghost use Rattle.start.specs.Limits.{placed, Starts};
 use edf::Slot;
@@ -232,7 +232,7 @@ pub fn fresh(table: &[u8], charge: u32, affinity: &[u8], placement: &[u8], numbe
     ensures decides { λ r. ⌜ Decided (placed (beside (now (table .entry)) charge (now (affinity .entry))) (now (placement .entry)) number) (r .outcome) ⌝ }
     ensures starts { λ r. ⌜ Starts (beside (now (table .entry)) charge (now (affinity .entry))) (now (placement .entry)) number r ⌝ }
 {
-    let reading = stored::read_beside(table, charge, affinity);
+    let reading = oldform::read_beside(table, charge, affinity);
     let outcome = reading.outcome;
     match outcome {
         Outcome::Refused(cause) => refused(cause),

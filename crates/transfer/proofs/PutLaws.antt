@@ -10,10 +10,10 @@ use Rattle.wire.proofs.LentLaws.{over-two, over-four, over-front, over-next, le
 use Rattle.taskset.specs.Limits.{Within}
 use Rattle.taskset.specs.declared.Fields.{Fields}
 use Rattle.taskset.proofs.LimitLaws.{periods-there, budgets-there}
-use Rattle.stored.specs.Form.{tableBytes}
-use Rattle.stored.proofs.BackLaws.{table-long}
-use Rattle.setup.specs.Form.{setupBytes}
-use Rattle.setup.proofs.BackLaws.{setup-long}
+use Rattle.oldform.specs.Form.{oldBytes}
+use Rattle.oldform.proofs.BackLaws.{old-long}
+use Rattle.newform.specs.Form.{newBytes}
+use Rattle.newform.proofs.BackLaws.{new-long}
 
 -- an output keeps its room
 room-left : (l : List ℕ) {o : List ℕ} (us : List ℕ) {x : ℕ} → o ≡ over l 0 us → length us ≤ length l → x ≤ length l → x ≤ length o
@@ -71,17 +71,17 @@ module _ (f : Fields) (w : Within f) (o : List ℕ) where
         affinity-room = (w .sizes .tasks .1, room-left o (0 ∷ f .n ∷ f .m ∷ f .charge ∷ (P ++ B)) with-budgets (omega (arith, to-affinity)) (omega arith))
 
         module _ {o4 : List ℕ} (h : o4 ≡ over o3 (4 + 8 * f .n) A) where
-          with-affinity : o4 ≡ over o 0 (setupBytes f)
-          unfolding setupBytes
+          with-affinity : o4 ≡ over o 0 (newBytes f)
+          unfolding newBytes
           with-affinity =
               next-piece o (0 ∷ f .n ∷ f .m ∷ f .charge ∷ (P ++ B)) A with-budgets h to-affinity (omega arith)
               ∙ ap (λ x. over o 0 (0 ∷ f .n ∷ f .m ∷ f .charge ∷ x)) (append-assoc P B A)
 
-          pub setup-put : o4 ≡ setupBytes f ++ drop (length (setupBytes f)) o
-          setup-put = with-affinity ∙ over-front o (setupBytes f)
+          pub new-put : o4 ≡ newBytes f ++ drop (length (newBytes f)) o
+          new-put = with-affinity ∙ over-front o (newBytes f)
 
-          pub setup-same : length o4 ≡ length o
-          setup-same = rw with-affinity (length-over o 0 (setupBytes f) (omega (arith, setup-long f w)))
+          pub new-same : length o4 ≡ length o
+          new-same = rw with-affinity (length-over o 0 (newBytes f) (omega (arith, new-long f w)))
 
   -- The old form: the first two bytes, then the periods and the budgets.
   module _ (fits : 2 + 8 * f .n ≤ length o) where
@@ -105,12 +105,12 @@ module _ (f : Fields) (w : Within f) (o : List ℕ) where
       old-budgets-room = (w .sizes .tasks .1, room-left o (f .n ∷ f .m ∷ P) old-periods (omega (arith, old-to-budgets)) (omega arith))
 
       module _ {o3 : List ℕ} (g : o3 ≡ over o2 (2 + 4 * f .n) B) where
-        old-budgets : o3 ≡ over o 0 (tableBytes f)
-        unfolding tableBytes
+        old-budgets : o3 ≡ over o 0 (oldBytes f)
+        unfolding oldBytes
         old-budgets = next-piece o (f .n ∷ f .m ∷ P) B old-periods g old-to-budgets (omega arith)
 
-        pub table-put : o3 ≡ tableBytes f ++ drop (length (tableBytes f)) o
-        table-put = old-budgets ∙ over-front o (tableBytes f)
+        pub old-put : o3 ≡ oldBytes f ++ drop (length (oldBytes f)) o
+        old-put = old-budgets ∙ over-front o (oldBytes f)
 
-        pub table-same : length o3 ≡ length o
-        table-same = rw old-budgets (length-over o 0 (tableBytes f) (omega (arith, table-long f w)))
+        pub old-same : length o3 ≡ length o
+        old-same = rw old-budgets (length-over o 0 (oldBytes f) (omega (arith, old-long f w)))

@@ -20,7 +20,7 @@ use Rattle.taskset.specs.Tests.{badPeriod, badBudget, badCost, badAffinity, exc
 use Rattle.taskset.specs.Limits.{Within}
 use Rattle.taskset.specs.declared.Fields.{Fields}
 use Rattle.taskset.proofs.LimitLaws.{fields-tested, periods-there, budgets-there, affinity-there}
-use Rattle.setup.specs.Form.{setupBytes}
+use Rattle.newform.specs.Form.{newBytes}
 use Rattle.transfer.specs.Calls.{listed}
 
 -- fields that the tests accept are within the limits
@@ -63,8 +63,8 @@ module _ (f g : Fields) (a : Alike f g) where
   outcome-alike = rw (same-period, same-budget, same-cost, same-affinity, same-multiple, a .tasks, a .cores, a .charge)
 
   -- so are the bytes of fields that are accepted
-  pub bytes-alike : Within (listed f) → Within (listed g) → setupBytes f ≡ setupBytes g
-  unfolding setupBytes
+  pub bytes-alike : Within (listed f) → Within (listed g) → newBytes f ≡ newBytes g
+  unfolding newBytes
   bytes-alike v w =
       let e = a .tasks in
       let P = front-same (f .n) (f .periods) (g .periods) (periods-there (listed f) v) (rw e (periods-there (listed g) w)) (a .periods) in

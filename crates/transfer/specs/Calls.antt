@@ -11,10 +11,10 @@ use Rattle.refusal.specs.declared.Outcome.{Outcome}
 use Rattle.taskset.specs.Fields.{affinityAt}
 use Rattle.taskset.specs.Tests.{fieldsOutcome}
 use Rattle.taskset.specs.declared.Fields.{Fields}
-use Rattle.stored.specs.Form.{everyAffinity, fieldsAlone, tableBytes}
-use Rattle.stored.specs.Tests.{tableOutcome}
-use Rattle.setup.specs.Form.{setupFields, setupBytes}
-use Rattle.setup.specs.Tests.{setupOutcome}
+use Rattle.oldform.specs.Form.{everyAffinity, aloneFields, oldBytes}
+use Rattle.oldform.specs.Tests.{besideOutcome}
+use Rattle.newform.specs.Form.{newFields, newBytes}
+use Rattle.newform.specs.Tests.{newOutcome}
 use Rattle.transfer.specs.Lent.{answerOf, outputOf}
 use Rattle.transfer.specs.declared.Transfer.{Transfer}
 
@@ -24,17 +24,17 @@ listed f = record { n = f .n; m = f .m; charge = f .charge; periods = f .periods
 
 -- the writer: the tests of fields
 unfoldable pub writeAnswer : Fields → ℕ → Transfer
-writeAnswer f room = answerOf Buffer (fieldsOutcome (listed f)) (setupBytes f) room
+writeAnswer f room = answerOf Buffer (fieldsOutcome (listed f)) (newBytes f) room
 
 unfoldable pub writeOutput : Fields → List ℕ → List ℕ
-writeOutput f out = outputOf Buffer (fieldsOutcome (listed f)) (setupBytes f) out
+writeOutput f out = outputOf Buffer (fieldsOutcome (listed f)) (newBytes f) out
 
 -- the move from the old form: the tests of a table that is read by itself; charge 0 and every core are filled in
 unfoldable pub newAnswer : List ℕ → ℕ → Transfer
-newAnswer s room = answerOf Buffer (tableOutcome s 0 (everyAffinity s)) (setupBytes (fieldsAlone s)) room
+newAnswer s room = answerOf Buffer (besideOutcome s 0 (everyAffinity s)) (newBytes (aloneFields s)) room
 
 unfoldable pub newOutput : List ℕ → List ℕ → List ℕ
-newOutput s out = outputOf Buffer (tableOutcome s 0 (everyAffinity s)) (setupBytes (fieldsAlone s)) out
+newOutput s out = outputOf Buffer (besideOutcome s 0 (everyAffinity s)) (newBytes (aloneFields s)) out
 
 -- whether the core byte of a task is another than that of every core
 unfoldable pub otherByte : Fields → ℕ → Bool
@@ -46,11 +46,11 @@ fillingTest f = refuseIf (not (eqb (f .charge) 0) || not (eqb (first (otherByte 
 
 -- the tests of a table that is to be moved back: the new form's, then number 18
 unfoldable pub backOutcome : List ℕ → Outcome
-backOutcome s = setupOutcome s then fillingTest (setupFields s)
+backOutcome s = newOutcome s then fillingTest (newFields s)
 
 -- the move back to the old form
 unfoldable pub oldAnswer : List ℕ → ℕ → Transfer
-oldAnswer s room = answerOf Buffer (backOutcome s) (tableBytes (setupFields s)) room
+oldAnswer s room = answerOf Buffer (backOutcome s) (oldBytes (newFields s)) room
 
 unfoldable pub oldOutput : List ℕ → List ℕ → List ℕ
-oldOutput s out = outputOf Buffer (backOutcome s) (tableBytes (setupFields s)) out
+oldOutput s out = outputOf Buffer (backOutcome s) (oldBytes (newFields s)) out

@@ -9,10 +9,10 @@ use Rattle.taskset.specs.Fields.{Free, Tied}
 use Rattle.taskset.specs.Limits.{Within, sizes, chargeAbove, periodOutside, budgetOutside, costAbove, affinityUnfit, multipleAbove}
 use Rattle.taskset.specs.declared.Fields.{Fields}
 use Rattle.taskset.specs.Table.{Table, also}
-use Rattle.stored.specs.Form.{everyAffinity}
-use Rattle.stored.specs.Limits.{Valid, tableConditions}
-use Rattle.setup.specs.Form.{setupFields}
-use Rattle.setup.specs.Limits.{ValidSetup, setupConditions, new}
+use Rattle.oldform.specs.Form.{everyAffinity}
+use Rattle.oldform.specs.Limits.{ValidBeside, aloneConditions}
+use Rattle.newform.specs.Form.{newFields}
+use Rattle.newform.specs.Limits.{ValidNew, newConditions, new}
 use Rattle.transfer.specs.Calls.{listed, fillingTest}
 
 -- Number 18: the old form has no place for the charge, or for a task that does not permit some core of the table.
@@ -33,17 +33,17 @@ writeConditions f room =
     sizes f ++ chargeAbove f ∷ periodOutside f ∷ budgetOutside f ∷ costAbove f ∷ affinityUnfit f ∷ multipleAbove f ∷ noRoom 8 (4 + 9 * f .n) room ∷ []
 
 -- A move from the old form within its limits: a table of the old form, and room for it in the new one.
-abbrev pub ValidNew : List ℕ → ℕ → Type 0
-ValidNew s room = Valid s 0 (everyAffinity s) × (4 + 9 * getD s 0 0 ≤ room)
+abbrev pub ValidMoveOn : List ℕ → ℕ → Type 0
+ValidMoveOn s room = ValidBeside s 0 (everyAffinity s) × (4 + 9 * getD s 0 0 ≤ room)
 
 -- Its refusals, in the order of their tests: numbers 1 to 7 of the old form, then 8.
-abbrev pub newConditions : List ℕ → ℕ → List Condition
-newConditions s room = tableConditions s ++ noRoom 8 (4 + 9 * getD s 0 0) room ∷ []
+abbrev pub moveOnConditions : List ℕ → ℕ → List Condition
+moveOnConditions s room = aloneConditions s ++ noRoom 8 (4 + 9 * getD s 0 0) room ∷ []
 
 -- A move back within its limits: a table of the new form with charge 0 and every core permitted to each task, and room for it in the old one.
-abbrev pub ValidOld : List ℕ → ℕ → Type 0
-ValidOld s room = (ValidSetup s × ((setupFields s .charge ≡ 0) × Free (setupFields s))) × (2 + 8 * getD s 1 0 ≤ room)
+abbrev pub ValidMoveBack : List ℕ → ℕ → Type 0
+ValidMoveBack s room = (ValidNew s × ((newFields s .charge ≡ 0) × Free (newFields s))) × (2 + 8 * getD s 1 0 ≤ room)
 
 -- Its refusals, in the order of their tests: those of the new form, then 18, then 8.
-abbrev pub oldConditions : List ℕ → ℕ → List Condition
-oldConditions s room = (setupConditions s ++ otherFilling (setupFields s) ∷ []) ++ noRoom 8 (2 + 8 * getD s 1 0) room ∷ []
+abbrev pub moveBackConditions : List ℕ → ℕ → List Condition
+moveBackConditions s room = (newConditions s ++ otherFilling (newFields s) ∷ []) ++ noRoom 8 (2 + 8 * getD s 1 0) room ∷ []

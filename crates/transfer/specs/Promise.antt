@@ -10,8 +10,8 @@ use Rattle.taskset.specs.Fields.{cut, Alike}
 use Rattle.taskset.specs.Reading.{acceptedReading}
 use Rattle.taskset.specs.declared.Fields.{Fields}
 use Rattle.taskset.specs.Table.{readingOf}
-use Rattle.stored.specs.Limits.{alone}
-use Rattle.setup.specs.Limits.{new}
+use Rattle.oldform.specs.Limits.{alone}
+use Rattle.newform.specs.Limits.{new}
 use Rattle.transfer.specs.Calls.{writeAnswer, writeOutput, newAnswer, newOutput, oldAnswer, oldOutput}
 use Rattle.transfer.specs.declared.Transfer.{Transfer}
 

@@ -9,11 +9,11 @@ ghost use Rattle.refusal.specs.declared.Cause.the-variants.{Buffer};
 ghost use Rattle.refusal.specs.Conditions.{Decides};
 ghost use Rattle.refusal.specs.declared.Outcome.the-variants.{Accepted};
 ghost use Rattle.taskset.specs.Limits.{Within};
-ghost use Rattle.stored.specs.Form.{fieldsAlone, tableBytes, OldForm};
-ghost use Rattle.setup.specs.Form.{setupFields, setupBytes, NewForm};
+ghost use Rattle.oldform.specs.Form.{aloneFields, oldBytes, OldForm};
+ghost use Rattle.newform.specs.Form.{newFields, newBytes, NewForm};
 ghost use Rattle.transfer.specs.Lent.{answerBy, answerOf, outputOf};
 ghost use Rattle.transfer.specs.Calls.{listed as listedFields, writeAnswer, writeOutput, newAnswer, newOutput, otherByte, fillingTest, oldAnswer, oldOutput};
-ghost use Rattle.transfer.specs.Limits.{ValidWrite, writeConditions, ValidNew, newConditions, ValidOld, oldConditions};
+ghost use Rattle.transfer.specs.Limits.{ValidWrite, writeConditions, ValidMoveOn, moveOnConditions, ValidMoveBack, moveBackConditions};
 ghost use Rattle.transfer.specs.Promise.{Stores, ReadBack, Unread, MovedOn, MovedBack};
 use refusal::Cause;
 use refusal::Outcome;
@@ -26,9 +26,9 @@ pub struct Transfer {
 }
 
 // Writes fields in the new form to the front of an output and leaves what follows.
-fn put_setup(out: &mut [u8], f: Fields)
+fn put_new(out: &mut [u8], f: Fields)
     requires { ⌜ Within f × (4 + 9 * f .n ≤ length (now out)) ⌝ }
-    ensures { λ _. ⌜ now (out .exit) ≡ setupBytes f ++ drop (length (setupBytes f)) (now (out .entry)) ⌝ }
+    ensures { λ _. ⌜ now (out .exit) ≡ newBytes f ++ drop (length (newBytes f)) (now (out .entry)) ⌝ }
 {
     let n = f.n;
     out[0] = 0;
@@ -44,9 +44,9 @@ fn put_setup(out: &mut [u8], f: Fields)
 }
 
 // The same in the old form, which has no place for charge and core bytes.
-fn put_table(out: &mut [u8], f: Fields)
+fn put_old(out: &mut [u8], f: Fields)
     requires { ⌜ Within f × (2 + 8 * f .n ≤ length (now out)) ⌝ }
-    ensures { λ _. ⌜ now (out .exit) ≡ tableBytes f ++ drop (length (tableBytes f)) (now (out .entry)) ⌝ }
+    ensures { λ _. ⌜ now (out .exit) ≡ oldBytes f ++ drop (length (oldBytes f)) (now (out .entry)) ⌝ }
 {
     let n = f.n;
     out[0] = n as u8;
@@ -82,34 +82,34 @@ fn answer(outcome: Outcome, size: usize) -> Transfer
 }
 
 // Stores fields in the new form after tests that accept only fields within the limits, if there is room.
-fn store_setup(before: Outcome, f: Fields, out: &mut [u8]) -> Transfer
+fn store_new(before: Outcome, f: Fields, out: &mut [u8]) -> Transfer
     requires { ⌜ (f .n ≤ 16) × (before ≡ Accepted → Within f) ⌝ }
-    ensures answer { λ r. ⌜ r ≡ answerOf Buffer before (setupBytes f) (length (now (out .entry))) ⌝ }
-    ensures output { λ r. ⌜ now (out .exit) ≡ outputOf Buffer before (setupBytes f) (now (out .entry)) ⌝ }
+    ensures answer { λ r. ⌜ r ≡ answerOf Buffer before (newBytes f) (length (now (out .entry))) ⌝ }
+    ensures output { λ r. ⌜ now (out .exit) ≡ outputOf Buffer before (newBytes f) (now (out .entry)) ⌝ }
 {
     let size = 4 + 9 * f.n;
     let outcome = room_after(before, size, out.len());
     match outcome {
         Outcome::Refused(_) => answer(outcome, size),
         Outcome::Accepted => {
-            put_setup(out, f);
+            put_new(out, f);
             answer(outcome, size)
         }
     }
 }
 
 // The same in the old form.
-fn store_table(before: Outcome, f: Fields, out: &mut [u8]) -> Transfer
+fn store_old(before: Outcome, f: Fields, out: &mut [u8]) -> Transfer
     requires { ⌜ (f .n ≤ 16) × (before ≡ Accepted → Within f) ⌝ }
-    ensures answer { λ r. ⌜ r ≡ answerOf Buffer before (tableBytes f) (length (now (out .entry))) ⌝ }
-    ensures output { λ r. ⌜ now (out .exit) ≡ outputOf Buffer before (tableBytes f) (now (out .entry)) ⌝ }
+    ensures answer { λ r. ⌜ r ≡ answerOf Buffer before (oldBytes f) (length (now (out .entry))) ⌝ }
+    ensures output { λ r. ⌜ now (out .exit) ≡ outputOf Buffer before (oldBytes f) (now (out .entry)) ⌝ }
 {
     let size = 2 + 8 * f.n;
     let outcome = room_after(before, size, out.len());
     match outcome {
         Outcome::Refused(_) => answer(outcome, size),
         Outcome::Accepted => {
-            put_table(out, f);
+            put_old(out, f);
             answer(outcome, size)
         }
     }
@@ -166,7 +166,7 @@ fn filling_test(f: Fields) -> Outcome
 }
 
 // Writes fields to an output in the new form, if they are within the limits. Entries beyond n are not read.
-pub fn write_setup(f: Fields, out: &mut [u8]) -> Transfer
+pub fn write_new(f: Fields, out: &mut [u8]) -> Transfer
     ensures answer { λ r. ⌜ r ≡ writeAnswer f (length (now (out .entry))) ⌝ }
     ensures output { λ r. ⌜ now (out .exit) ≡ writeOutput f (now (out .entry)) ⌝ }
     ensures decides { λ r. ⌜ Decides (ValidWrite f (length (now (out .entry)))) (writeConditions f (length (now (out .entry)))) (r .outcome) ⌝ }
@@ -176,34 +176,34 @@ pub fn write_setup(f: Fields, out: &mut [u8]) -> Transfer
 {
     let reading = taskset::check(listed(f));
     let tests = reading.outcome;
-    store_setup(tests, reading.tasks.fields, out)
+    store_new(tests, reading.tasks.fields, out)
 }
 
 // Moves a table of the old form to an output in the new form: the charge is 0, and each task may use every core.
 pub fn to_new(table: &[u8], out: &mut [u8]) -> Transfer
     ensures answer { λ r. ⌜ r ≡ newAnswer (now (table .entry)) (length (now (out .entry))) ⌝ }
     ensures output { λ r. ⌜ now (out .exit) ≡ newOutput (now (table .entry)) (now (out .entry)) ⌝ }
-    ensures decides { λ r. ⌜ Decides (ValidNew (now (table .entry)) (length (now (out .entry)))) (newConditions (now (table .entry)) (length (now (out .entry)))) (r .outcome) ⌝ }
-    ensures stores { λ r. ⌜ Stores (NewForm (fieldsAlone (now (table .entry)))) (4 + 9 * getD (now (table .entry)) 0 0) (now (out .entry)) r (now (out .exit)) ⌝ }
+    ensures decides { λ r. ⌜ Decides (ValidMoveOn (now (table .entry)) (length (now (out .entry)))) (moveOnConditions (now (table .entry)) (length (now (out .entry)))) (r .outcome) ⌝ }
+    ensures stores { λ r. ⌜ Stores (NewForm (aloneFields (now (table .entry)))) (4 + 9 * getD (now (table .entry)) 0 0) (now (out .entry)) r (now (out .exit)) ⌝ }
     ensures moved { λ r. ⌜ MovedOn (now (table .entry)) r (now (out .exit)) ⌝ }
 {
-    let reading = stored::read_table(table);
+    let reading = oldform::read_alone(table);
     let tests = reading.outcome;
-    store_setup(tests, reading.tasks.fields, out)
+    store_new(tests, reading.tasks.fields, out)
 }
 
 // Moves a table of the new form with exactly those fillings back to the old form.
 pub fn to_old(table: &[u8], out: &mut [u8]) -> Transfer
     ensures answer { λ r. ⌜ r ≡ oldAnswer (now (table .entry)) (length (now (out .entry))) ⌝ }
     ensures output { λ r. ⌜ now (out .exit) ≡ oldOutput (now (table .entry)) (now (out .entry)) ⌝ }
-    ensures decides { λ r. ⌜ Decides (ValidOld (now (table .entry)) (length (now (out .entry)))) (oldConditions (now (table .entry)) (length (now (out .entry)))) (r .outcome) ⌝ }
-    ensures stores { λ r. ⌜ Stores (OldForm (setupFields (now (table .entry)))) (2 + 8 * getD (now (table .entry)) 1 0) (now (out .entry)) r (now (out .exit)) ⌝ }
+    ensures decides { λ r. ⌜ Decides (ValidMoveBack (now (table .entry)) (length (now (out .entry)))) (moveBackConditions (now (table .entry)) (length (now (out .entry)))) (r .outcome) ⌝ }
+    ensures stores { λ r. ⌜ Stores (OldForm (newFields (now (table .entry)))) (2 + 8 * getD (now (table .entry)) 1 0) (now (out .entry)) r (now (out .exit)) ⌝ }
     ensures moved { λ r. ⌜ MovedBack (now (table .entry)) r (now (out .exit)) ⌝ }
 {
-    let reading = setup::read_setup(table);
+    let reading = newform::read_new(table);
     let f = reading.tasks.fields;
     let read = reading.outcome;
     let filling = filling_test(f);
     let tests = refusal::then(read, filling);
-    store_table(tests, f, out)
+    store_old(tests, f, out)
 }

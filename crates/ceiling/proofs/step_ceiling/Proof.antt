@@ -1,5 +1,5 @@
 -- The table is read, and what was read has the ceiling.
-use Rattle.stored.proofs.TableLaws.{beside-sound}
+use Rattle.oldform.proofs.OldLaws.{beside-sound}
 use borrow.Author.Needs.{needs}
 use Rattle.ceiling.proofs.PromiseLaws.{ceiling-all}
 use Rattle.ceiling.proofs.step_ceiling.Statement.{statement}

@@ -1,5 +1,5 @@
 -- The table is read, and what was read is planned.
-use Rattle.stored.proofs.TableLaws.{beside-sound}
+use Rattle.oldform.proofs.OldLaws.{beside-sound}
 use Rattle.planner.proofs.PromiseLaws.{plan-all}
 use borrow.Author.Needs.{needs}
 use Rattle.planner.proofs.plan.Statement.{statement}

@@ -1,5 +1,5 @@
 -- The table is read, and what was read is planned.
-use Rattle.stored.proofs.TableLaws.{beside-sound}
+use Rattle.oldform.proofs.OldLaws.{beside-sound}
 use Rattle.quick.proofs.PromiseLaws.{quick-all}
 use borrow.Author.Needs.{needs}
 use Rattle.quick.proofs.quick_plan.Statement.{statement}

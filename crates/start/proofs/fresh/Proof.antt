@@ -1,6 +1,6 @@
 -- The table is read first; its task set is the one that starts.
 use Rattle.start.proofs.StartLaws.{start-refused, start-checked, start-all}
-use Rattle.stored.proofs.TableLaws.{beside-sound}
+use Rattle.oldform.proofs.OldLaws.{beside-sound}
 use borrow.Author.Needs.{needs}
 use Rattle.start.proofs.fresh.Statement.{statement}
 use Rattle.start.proofs.fresh.Tie as tie

@@ -1,0 +1,3 @@
+pub mod FormLaws
+pub mod BackLaws
+pub mod OldLaws

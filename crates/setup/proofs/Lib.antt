@@ -1,3 +1,0 @@
-pub mod FormLaws
-pub mod BackLaws
-pub mod SetupLaws
