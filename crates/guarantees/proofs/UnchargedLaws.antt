@@ -11,7 +11,7 @@ use Rattle.taskset.specs.declared.Fields.{Fields}
 use Rattle.taskset.proofs.LimitLaws.{cost-uncharged, charge-uncharged, costs-uncharged, row-every, affinity-every}
 use Rattle.oldform.specs.Form.{besideFields}
 use Rattle.oldform.specs.Limits.{beside, alone}
-use Rattle.oldform.proofs.FormLaws.{every-listed, every-affinity}
+use Rattle.oldform.proofs.FormLaws.{every-counted, every-affinity}
 use Rattle.planner.proofs.PromiseLaws.{walk-rule}
 use Rattle.ceiling.proofs.PromiseLaws.{ceiling-promise}
 use Rattle.edf.specs.Tick.{owedFor}
@@ -59,6 +59,6 @@ alone-is = record {
   fields = λ table. refl;
   outcome = λ table. refl;
   uncharged = λ table. refl;
-  every = λ table charge z. record { listed = every-listed table charge; bytes = every-affinity table charge (z .tasks .1) };
+  every = λ table charge z. record { listed = every-counted table charge; bytes = every-affinity table charge (z .tasks .1) };
   fresh = start-alone;
 }

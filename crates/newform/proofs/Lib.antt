@@ -1,3 +1,2 @@
-pub mod FormLaws
 pub mod BackLaws
 pub mod NewLaws

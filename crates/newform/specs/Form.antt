@@ -1,24 +1,21 @@
 -- The new stored form: a byte 0, the sizes and the charge, then three parallel arrays.
-use Prim.Native.Nat.{ℕ, _+_, _*_, _≤_, _<_}
+use Prim.Native.Nat.{ℕ, _+_, _*_, _<_}
 use mathlib.Core.Path.{_≡_}
 use mathlib.Core.List.{List, _∷_, _++_}
 use lib.ListN.{length, getD, take}
 use Rattle.numbers.specs.Rows.{row}
-use Rattle.wire.specs.Bytes.{le32, wordAt, byteAt, bytesOfAll}
+use Rattle.wire.specs.Bytes.{le32, byteAt, bytesOfAll}
 use Rattle.taskset.specs.Fields.{periodAt, budgetAt, affinityAt}
 use Rattle.taskset.specs.declared.Fields.{Fields}
+use Rattle.form.specs.Layout.{fieldsAt}
 
 -- byte 0: always 0, which is no number of tasks, so that no table of the old form is one of the new
 abbrev pub firstByte : List ℕ → ℕ
 firstByte s = getD s 0 0
 
--- byte 1: the number of tasks, n
+-- byte 1: the number of tasks, n; byte 2: the number of cores, m
 abbrev pub taskCount : List ℕ → ℕ
 taskCount s = getD s 1 0
-
--- byte 2: the number of cores, m
-abbrev pub coreCount : List ℕ → ℕ
-coreCount s = getD s 2 0
 
 -- byte 3: the board's charge (the field's switch cost)
 abbrev pub chargeByte : List ℕ → ℕ
@@ -31,15 +28,7 @@ newLength n = 4 + 9 * n
 -- the sizes and the charge, then n periods, n budgets (the paper's times) and n core bytes in the same task order; bytes past the end
 -- count as 0, and entries beyond n are 0
 unfoldable pub newFields : List ℕ → Fields
-newFields s = record {
-  n = taskCount s;
-  m = coreCount s;
-  charge = chargeByte s;
-  periods = row 0 (taskCount s) (wordAt s 4);
-  budgets = row 0 (taskCount s) (wordAt s (4 + 4 * taskCount s));
-  affinity = row 0 (taskCount s) (byteAt s (4 + 8 * taskCount s));
-  given = taskCount s;
-}
+newFields s = fieldsAt s 1 4 (chargeByte s) (row 0 (taskCount s) (byteAt s (4 + 8 * taskCount s))) (taskCount s)
 
 -- the bytes of a table of n tasks and m cores
 abbrev pub newWith : ℕ → ℕ → ℕ → List ℕ → List ℕ → List ℕ → List ℕ
@@ -62,9 +51,3 @@ pub record NewForm (f : Fields) (s : List ℕ) : Type 0 where
   pub periods : (k : ℕ) → k < f .n → le32 s (4 + 4 * k) ≡ periodAt f k
   pub budgets : (k : ℕ) → k < f .n → le32 s (4 + 4 * f .n + 4 * k) ≡ budgetAt f k
   pub affinity : (k : ℕ) → k < f .n → getD s (4 + 8 * f .n + k) 0 ≡ affinityAt f k
-
--- Rows whose entries beyond n are 0.
-pub record Bounded (f : Fields) : Type 0 where
-  pub periods : (k : ℕ) → f .n ≤ k → periodAt f k ≡ 0
-  pub budgets : (k : ℕ) → f .n ≤ k → budgetAt f k ≡ 0
-  pub affinity : (k : ℕ) → f .n ≤ k → affinityAt f k ≡ 0

@@ -58,9 +58,9 @@ same-byte n k x e h = sym (getD-replicate n k x 0 (omega arith))
 
 -- Where every core is permitted there is a byte for each task, and it permits every core.
 module _ (s : List ℕ) (charge : ℕ) where
-  pub every-listed : besideFields s charge (everyAffinity s) .given ≡ besideFields s charge (everyAffinity s) .n
+  pub every-counted : besideFields s charge (everyAffinity s) .given ≡ besideFields s charge (everyAffinity s) .n
   unfolding besideFields everyAffinity
-  every-listed = length-replicate (taskCount s) (everyCore (coreCount s))
+  every-counted = length-replicate (taskCount s) (everyCore (coreCount s))
 
   pub every-affinity : besideFields s charge (everyAffinity s) .n ≤ 16 → (k : ℕ) → k < besideFields s charge (everyAffinity s) .n
       → affinityAt (besideFields s charge (everyAffinity s)) k ≡ everyCore (besideFields s charge (everyAffinity s) .m)
@@ -75,14 +75,13 @@ unfolding byteAt
 from-front affinity n e = e ∙ row-cong 0 n (byteAt affinity 0) (entry affinity) (λ k h. ap (entry affinity) (zero-add k))
 
 -- The fields that the readers decode.
-module _ (s : List ℕ) {g : Fields} {row16 : List ℕ} where
-  pub fields-beside : (charge : ℕ) (affinity : List ℕ) {given n : ℕ} → g ≡ oldFields s charge row16 given
-      → row16 ≡ row 0 n (entry affinity) → n ≡ taskCount s → given ≡ length affinity → g ≡ besideFields s charge affinity
+module _ (s : List ℕ) {row16 : List ℕ} where
+  pub fields-beside : (charge : ℕ) (affinity : List ℕ) {n : ℕ} → row16 ≡ row 0 n (entry affinity) → n ≡ taskCount s
+      → oldFields s charge row16 (length affinity) ≡ besideFields s charge affinity
   unfolding besideFields
-  fields-beside charge affinity e p q l = e ∙ rw (p, q, l)
+  fields-beside charge affinity p q = rw (p, q)
 
-  pub fields-alone : {byte n m : ℕ} → g ≡ oldFields s 0 row16 n → row16 ≡ row 0 n (entry (replicate n byte))
-      → byte ≡ everyCore m → n ≡ taskCount s → m ≡ coreCount s → g ≡ aloneFields s
-  unfolding everyAffinity
-  fields-alone {byte} {n} {m} e p q a b =
-      fields-beside 0 (replicate (taskCount s) (everyCore (coreCount s))) e (p ∙ rw (q, b, a)) a (rw length-replicate a)
+  pub fields-alone : {byte n m : ℕ} → row16 ≡ row 0 n (entry (replicate n byte)) → byte ≡ everyCore m → n ≡ taskCount s → m ≡ coreCount s
+      → oldFields s 0 row16 n ≡ aloneFields s
+  unfolding besideFields everyAffinity
+  fields-alone p q a b = rw (p, q, b, a, length-replicate)

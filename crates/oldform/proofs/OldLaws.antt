@@ -1,68 +1,54 @@
--- A stored table's tests are those of its limits and refusals.
-use Prim.Native.Nat.{ℕ, _+_, _*_, _<_}
+-- A stored table's tests are those of its limits and refusals, and what its readers are promised.
+use Prim.Native.Nat.{ℕ, _+_, _*_, _≤_}
 use mathlib.Core.Path.{_≡_, refl, sym, _∙_}
 use mathlib.Core.List.{List, [], _∷_, _++_}
-use lib.ListN.{length}
+use lib.ListN.{length-replicate}
 use native.Mathlib.Omega.{arith}
-use Rattle.numbers.proofs.BoundLaws.{less-exactly, unequal-exactly, not-unequal}
-use Rattle.refusal.specs.Tests.{_then_, inOrder}
+use Rattle.numbers.specs.Rows.{row, entry}
+use Rattle.numbers.proofs.RowLaws.{getD-row, row-beyond}
 use Rattle.refusal.specs.Conditions.{Condition, None, Tested}
-use Rattle.refusal.specs.declared.Cause.the-variants.{TooShort, Length}
-use Rattle.refusal.specs.declared.Outcome.{Outcome}
-use Rattle.refusal.specs.declared.Outcome.the-variants.{Accepted}
-use Rattle.refusal.proofs.ConditionLaws.{test-only, _and_, _also_, join, tested-as, unnamed, unnamed-all, decides, accepts}
-use Rattle.taskset.specs.Tests.{limitTests}
+use Rattle.refusal.proofs.ConditionLaws.{_also_, tested-as, unnamed, unnamed-all}
 use Rattle.taskset.specs.Reading.{readingBy}
 use Rattle.taskset.specs.Limits.{Sized, sizes, chargeAbove, periodOutside, budgetOutside, costAbove, rowOther, affinityUnfit, multipleAbove, Reads}
 use Rattle.taskset.specs.Table.{readingOf, Decided, Sound}
 use Rattle.taskset.specs.declared.Fields.{Fields}
 use Rattle.taskset.specs.declared.Reading.{Reading}
-use Rattle.taskset.proofs.LimitLaws.{sizes-reported, sizes-kept, charge-uncharged, costs-uncharged, row-every, affinity-every}
-use Rattle.taskset.proofs.TableLaws.{after-tested, read-after, read-decided, read-reads}
-use Rattle.oldform.specs.Form.{taskCount, besideFields, everyAffinity, aloneFields}
-use Rattle.oldform.specs.Tests.{shapeOutcome, besideOutcome}
-use Rattle.oldform.specs.Limits.{ValidBeside, tooShort, otherLength, besideConditions, aloneConditions, beside, alone}
-use Rattle.oldform.proofs.FormLaws.{every-listed, every-affinity}
+use Rattle.taskset.proofs.LimitLaws.{sizes-kept, charge-uncharged, costs-uncharged, row-every, affinity-every}
+use Rattle.taskset.proofs.TableLaws.{read-decided, read-reads}
+use Rattle.form.specs.Shape.{tooShort, otherLength}
+use Rattle.form.specs.Layout.{Bounded, ReadsIn}
+use Rattle.form.proofs.ShapeLaws.{short-tested, form-tested}
+use Rattle.form.proofs.LayoutLaws.{word-stands, fields-bounded, reads-in}
+use Rattle.oldform.specs.Form.{taskCount, oldLength, oldFields, besideFields, everyAffinity, aloneFields, FormBeside}
+use Rattle.oldform.specs.Limits.{ValidBeside, besideConditions, aloneConditions, oldOutcome, beside, alone}
+use Rattle.oldform.proofs.FormLaws.{every-counted, every-affinity}
 
--- the tests of the form: number 1, the sizes, number 4
-shape-tested : (s : List ℕ) (f : Fields) → Tested (((length s < 2 → ⊥) × Sized f) × (length s ≡ 2 + 8 * taskCount s)) ((tooShort s ∷ sizes f) ++ otherLength s ∷ []) (shapeOutcome s f)
-unfolding shapeOutcome inOrder
-shape-tested s f =
-    join (record {
-      reports = test-only TooShort refl (less-exactly (length s) 2) and sizes-reported f;
-      valid = (λ n. (n .0, sizes-kept f .0 (n .1)), λ v. (v .0, sizes-kept f .1 (v .1)));
-    }) (record {
-      reports = test-only Length refl (unequal-exactly (length s) (2 + 8 * taskCount s));
-      valid = (λ n. not-unequal _ _ (n .0), λ v. ((λ n. n v), tt));
-    })
-
-pub beside-tested : (s : List ℕ) (charge : ℕ) (affinity : List ℕ) → Tested (ValidBeside s charge affinity) (besideConditions s charge affinity) (besideOutcome s charge affinity)
-unfolding besideOutcome
+pub beside-tested : (s : List ℕ) (charge : ℕ) (affinity : List ℕ) → Tested (ValidBeside s charge affinity) (besideConditions s charge affinity) (oldOutcome s (besideFields s charge affinity))
+unfolding oldOutcome besideFields
 beside-tested s charge affinity =
-    let f : Fields = besideFields s charge affinity in
     tested-as (
-      λ v. record { exact = v .0 .1; fields = v .1 },
-      λ v. ((((λ h. omega (arith, v .exact)), v .fields .sizes), v .exact), v .fields),
+      λ v. record { exact = v .0 .1; row = v .1 .counted; fields = v .1 },
+      λ v. (((omega (arith, v .exact), v .fields .sizes), v .exact), v .fields),
     )
-    (after-tested f (λ v. v .0 .1) (shape-tested s f))
+    (form-tested (short-tested 2 s) (oldLength (taskCount s)) s (besideFields s charge affinity))
 
 pub beside-sound : (s : List ℕ) (charge : ℕ) (affinity : List ℕ) → Sound (beside s charge affinity)
 unfolding beside
 beside-sound s charge affinity = record { tested = beside-tested s charge affinity; within = λ v. v .fields }
 
 -- With charge 0 and every core permitted numbers 13, 14 and 15 are never the first to hold, so a table that is read by itself has numbers 1 to 7.
-pub alone-tested : (s : List ℕ) → Tested (ValidBeside s 0 (everyAffinity s)) (aloneConditions s) (besideOutcome s 0 (everyAffinity s))
+pub alone-tested : (s : List ℕ) → Tested (ValidBeside s 0 (everyAffinity s)) (aloneConditions s) (oldOutcome s (aloneFields s))
 unfolding besideFields
 alone-tested s =
     let f : Fields = aloneFields s in
-    let first : List Condition = tooShort s ∷ sizes f ++ otherLength s ∷ [] in
+    let first : List Condition = tooShort 2 s ∷ sizes f ++ otherLength (oldLength (taskCount s)) s ∷ [] in
     let then-budgets : List Condition = first ++ periodOutside f ∷ budgetOutside f ∷ [] in
     let then-bytes : List Condition = rowOther f ∷ affinityUnfit f ∷ [] in
     unnamed-all then-budgets (costAbove f ∷ then-bytes) (multipleAbove f ∷ [])
     (λ n.
     let z : Sized f = sizes-kept f .0 (n .1 .0 also n .1 .1 .0 also tt) in
     costs-uncharged f refl (n .1 .1 .1 .1 .1 .0)
-    also row-every f (every-listed s 0)
+    also row-every f (every-counted s 0)
     also affinity-every f z (every-affinity s 0 (z .tasks .1))
     also tt)
     (unnamed first (chargeAbove f) (periodOutside f ∷ budgetOutside f ∷ costAbove f ∷ then-bytes ++ multipleAbove f ∷ []) (λ n. charge-uncharged f refl)
@@ -76,20 +62,44 @@ alone-sound s = record { tested = alone-tested s; within = λ v. v .fields }
 pub alone-sized : (s : List ℕ) → None (aloneConditions s) → Sized (aloneFields s)
 alone-sized s n = sizes-kept (aloneFields s) .0 (n .1 .0 also n .1 .1 .0 also tt)
 
--- The steps of the readers.
-pub shape-says : (s : List ℕ) {g : Fields} {o : Outcome} → o ≡ shapeOutcome s g → o ≡ Accepted → Sized g
-shape-says s {g} p q = accepts (decides (shape-tested s g)) .0 (sym p ∙ q) .0 .1
+-- ---- the readers
 
-module _ (s : List ℕ) {g : Fields} {o : Outcome} {r : Reading} (p : o ≡ shapeOutcome s g) (h : r ≡ readingBy (o then inOrder (limitTests g)) g) where
-  pub beside-read : (charge : ℕ) (affinity : List ℕ) → g ≡ besideFields s charge affinity
-      → (r ≡ readingOf (beside s charge affinity)) × (Decided (beside s charge affinity) (r .outcome) × Reads r)
-  unfolding readingOf beside besideOutcome
-  beside-read charge affinity e =
-      let a : r ≡ readingOf (beside s charge affinity) = read-after (shapeOutcome s) h p e in
-      (a, (read-decided _ a (beside-sound s charge affinity), read-reads _ a (beside-sound s charge affinity)))
+-- each part of an accepted table stands at its place
+beside-form : (s : List ℕ) (charge : ℕ) (affinity : List ℕ) → taskCount s ≤ 16 → FormBeside charge affinity (besideFields s charge affinity) s
+unfolding besideFields
+beside-form s charge affinity few = record {
+  form = record {
+    tasks = refl;
+    cores = refl;
+    periods = λ k h. word-stands s 2 (taskCount s) few k h;
+    budgets = λ k h. word-stands s (2 + 4 * taskCount s) (taskCount s) few k h;
+  };
+  charged = refl;
+  bytes = λ k h. getD-row 0 (taskCount s) (entry affinity) k h few;
+}
 
-  pub alone-read : g ≡ aloneFields s → (r ≡ readingOf (alone s)) × (Decided (alone s) (r .outcome) × Reads r)
-  unfolding readingOf alone besideOutcome
-  alone-read e =
-      let a : r ≡ readingOf (alone s) = read-after (shapeOutcome s) h p e in
-      (a, (read-decided _ a (alone-sound s), read-reads _ a (alone-sound s)))
+module _ (s : List ℕ) (charge : ℕ) (affinity : List ℕ) where
+  beside-valid : ValidBeside s charge affinity → FormBeside charge affinity (besideFields s charge affinity) s
+  unfolding besideFields
+  beside-valid v = beside-form s charge affinity (v .fields .sizes .tasks .1)
+
+  beside-bounded : Bounded (besideFields s charge affinity)
+  unfolding besideFields
+  beside-bounded = fields-bounded s 0 2 charge _ _ (λ k h. row-beyond 0 (taskCount s) (entry affinity) k h)
+
+  -- a reading by the tests is the table's
+  pub beside-read : {f : Fields} {r : Reading} → r ≡ readingBy (oldOutcome s f) f → f ≡ besideFields s charge affinity
+      → (r ≡ readingOf (beside s charge affinity)) × (Decided (beside s charge affinity) (r .outcome) × (Reads r × ReadsIn (FormBeside charge affinity) s r))
+  unfolding readingOf beside
+  beside-read {r = r} h e =
+      let sound = beside-sound s charge affinity in
+      let a : r ≡ readingOf (beside s charge affinity) = h ∙ rw e in
+      (a, (read-decided _ a sound, (read-reads _ a sound, reads-in sound s beside-valid beside-bounded a)))
+
+pub alone-read : (s : List ℕ) {f : Fields} {r : Reading} → r ≡ readingBy (oldOutcome s f) f → f ≡ aloneFields s
+    → (r ≡ readingOf (alone s)) × (Decided (alone s) (r .outcome) × (Reads r × ReadsIn (FormBeside 0 (everyAffinity s)) s r))
+unfolding readingOf alone
+alone-read s {r = r} h e =
+    let sound = alone-sound s in
+    let a : r ≡ readingOf (alone s) = h ∙ rw e in
+    (a, (read-decided _ a sound, (read-reads _ a sound, reads-in sound s (beside-valid s 0 (everyAffinity s)) (beside-bounded s 0 (everyAffinity s)) a)))

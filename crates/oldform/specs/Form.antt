@@ -4,10 +4,11 @@ use mathlib.Core.Path.{_≡_}
 use mathlib.Core.List.{List, _∷_, _++_}
 use lib.ListN.{length, getD, take, replicate}
 use Rattle.numbers.specs.Rows.{row, entry, padded}
-use Rattle.wire.specs.Bytes.{le32, wordAt, bytesOfAll, Words}
+use Rattle.wire.specs.Bytes.{le32, bytesOfAll, Words}
 use Rattle.affinity.specs.Permitted.{everyCore}
-use Rattle.taskset.specs.Fields.{periodAt, budgetAt}
+use Rattle.taskset.specs.Fields.{periodAt, budgetAt, affinityAt}
 use Rattle.taskset.specs.declared.Fields.{Fields}
+use Rattle.form.specs.Layout.{fieldsAt}
 
 -- byte 0: the number of tasks, n
 abbrev pub taskCount : List ℕ → ℕ
@@ -17,18 +18,13 @@ taskCount s = getD s 0 0
 abbrev pub coreCount : List ℕ → ℕ
 coreCount s = getD s 1 0
 
--- the sizes, then n periods, then n budgets (the paper's times) in the same layout and task order; bytes past the end count as 0;
--- beside the table the charge, and sixteen core bytes with how many were given
+-- the length of a table of n tasks
+abbrev pub oldLength : ℕ → ℕ
+oldLength n = 2 + 8 * n
+
+-- the sizes, then n periods and n budgets; beside the table the charge, and sixteen core bytes with how many were given
 abbrev pub oldFields : List ℕ → ℕ → List ℕ → ℕ → Fields
-oldFields s charge affinity given = record {
-  n = taskCount s;
-  m = coreCount s;
-  charge = charge;
-  periods = row 0 (taskCount s) (wordAt s 2);
-  budgets = row 0 (taskCount s) (wordAt s (2 + 4 * taskCount s));
-  affinity = affinity;
-  given = given;
-}
+oldFields s charge affinity given = fieldsAt s 0 2 charge affinity given
 
 -- the fields of a table, the charge beside it, and a row of core bytes, of which the first n are used
 unfoldable pub besideFields : List ℕ → ℕ → List ℕ → Fields
@@ -60,6 +56,12 @@ pub record OldForm (f : Fields) (s : List ℕ) : Type 0 where
   pub cores : getD s 1 0 ≡ f .m
   pub periods : (k : ℕ) → k < f .n → le32 s (2 + 4 * k) ≡ periodAt f k
   pub budgets : (k : ℕ) → k < f .n → le32 s (2 + 4 * f .n + 4 * k) ≡ budgetAt f k
+
+-- These fields in the old form, with this charge and these core bytes beside them.
+pub record FormBeside (charge : ℕ) (affinity : List ℕ) (f : Fields) (s : List ℕ) : Type 0 where
+  pub form : OldForm f s
+  pub charged : f .charge ≡ charge
+  pub bytes : (k : ℕ) → k < f .n → affinityAt f k ≡ entry affinity k
 
 -- The fields of a table made of sizes, periods and budgets, with a charge and core bytes beside it, are these, with zeros up to sixteen.
 abbrev pub FieldsReadBack : Type 0

@@ -198,9 +198,10 @@ decides-same o p a b d = record { accepted = rw (a, b) (d .accepted); refused = 
 pub tested-as : {A B : Type 0} {cs : List Condition} {o : Outcome} → A ↔ B → Tested A cs o → Tested B cs o
 tested-as h t = record { reports = t .reports; valid = (λ n. h .0 (t .valid .0 n), λ v. t .valid .1 (h .1 v)) }
 
+-- one test, of a condition that fails exactly where a limit is kept
+pub one-tested : {A P : Type 0} {t : Bool} (c : Cause) → placeOf c ≡ 0 → (t ≡ true) ↔ P → (P → ⊥) ↔ A → Tested A (only (numberOf c) P ∷ []) (refuseIf t c)
+one-tested c z h k = record { reports = test-only c z h; valid = (λ n. k .0 (n .0), λ a. (k .1 a, tt)) }
+
 -- the test of a lent output's room
 pub room-tested : (c : Cause) → placeOf c ≡ 0 → (size room : ℕ) → Tested (size ≤ room) (noRoom (numberOf c) size room ∷ []) (roomTest c size room)
-room-tested c z size room = record {
-  reports = test-only c z (less-exactly room size);
-  valid = (λ n. not-less _ _ (n .0), λ h. (λ g. omega arith, tt));
-}
+room-tested c z size room = one-tested c z (less-exactly room size) (not-less _ _, λ h g. omega arith)

@@ -68,6 +68,9 @@ module _ (f : Fields) where
     λ z. not-outside 1 16 (f .n) .1 (z .tasks) also not-outside 1 4 (f .m) .1 (z .cores) also tt,
   )
 
+  pub sizes-tested : Tested (Sized f) (sizes f) (inOrder (sizeTests f))
+  sizes-tested = record { reports = sizes-reported; valid = sizes-kept }
+
   pub limits-kept : Sized f → None (limits f) → Within f
   unfolding hyperperiodOf exceeds
   limits-kept z n = record {
@@ -76,7 +79,7 @@ module _ (f : Fields) where
     periods = λ k h. not-outside 1 10000 (periodAt f k) .0 (n .1 .0 k h);
     budgets = λ k h. not-outside 1 (periodAt f k) (budgetAt f k) .0 (n .1 .1 .0 k h);
     costs = λ k h. not-less (periodAt f k) (costAt f k) (n .1 .1 .1 .0 k h);
-    listed = not-unequal _ _ (n .1 .1 .1 .1 .0);
+    counted = not-unequal _ _ (n .1 .1 .1 .1 .0);
     affinities = λ k h. fit-byte (f .m) (affinityAt f k) (z .cores .1) (not-unfit (affinityAt f k) (f .m) (n .1 .1 .1 .1 .1 .0 k h));
     multiple =
         let q : f .n ≡ f .n - 1 + 1 = omega (arith, z .tasks .0) in
@@ -92,7 +95,7 @@ module _ (f : Fields) where
       also (λ k h. not-outside 1 10000 (periodAt f k) .1 (w .periods k h))
       also (λ k h. not-outside 1 (periodAt f k) (budgetAt f k) .1 (w .budgets k h))
       also (λ k h g. omega (arith, w .costs k h))
-      also (λ n. n (w .listed))
+      also (λ n. n (w .counted))
       also (λ k h. fit-fails (affinityAt f k) (f .m) (fit-not (f .m) (affinityAt f k) (w .affinities k h)))
       also (λ k h x. omega (arith, multiple-bound w k h, ltb-true 1000000 (multipleTo f (k + 1)) (exceeds-exactly k .1 x)))
       also tt

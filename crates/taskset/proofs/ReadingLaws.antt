@@ -5,21 +5,19 @@ use mathlib.Core.Logic.{⊎-elim}
 use native.Mathlib.Omega.{arith}
 use Rattle.refusal.specs.Causes.{numberIn}
 use Rattle.refusal.specs.Tests.{_then_, inOrder, byOutcome}
-use Rattle.refusal.specs.Conditions.{Decides}
 use Rattle.refusal.specs.declared.Cause.{Cause}
 use Rattle.refusal.specs.declared.Outcome.{Outcome}
 use Rattle.refusal.specs.declared.Outcome.the-variants.{Accepted, Refused}
 use Rattle.refusal.proofs.CauseLaws.{number-range}
-use Rattle.refusal.proofs.TestLaws.{accepted≢refused, outcome-cases, then-first, then-refused, inOrder-append, by-says}
+use Rattle.refusal.proofs.TestLaws.{accepted≢refused, outcome-cases, then-first, then-refused, by-says}
 use Rattle.refusal.proofs.TestLaws as tests
-use Rattle.refusal.proofs.ConditionLaws.{decides, accepts}
-use Rattle.taskset.specs.Tests.{sizeTests, limitTests, fieldsOutcome}
-use Rattle.taskset.specs.Reading.{taskSetOf, noTasks, refusedReading, acceptedReading, readingBy, checkOf}
-use Rattle.taskset.specs.Limits.{Sized, Within, fieldConditions, Checked, Reads}
+use Rattle.taskset.specs.Tests.{sizeTests, limitTests}
+use Rattle.taskset.specs.Reading.{taskSetOf, noTasks, refusedReading, acceptedReading, readingBy}
+use Rattle.taskset.specs.Limits.{Sized, Within, Checked, Reads}
 use Rattle.taskset.specs.declared.Fields.{Fields}
 use Rattle.taskset.specs.declared.Reading.{Reading}
 use Rattle.taskset.proofs.DemandLaws.{taskSet-exact}
-use Rattle.taskset.proofs.LimitLaws.{sizes-reported, sizes-kept, limits-reported, limits-kept, fields-tested}
+use Rattle.taskset.proofs.LimitLaws.{sizes-reported, sizes-kept, limits-reported, limits-kept}
 
 -- the answer's outcome is that of the tests
 pub reading-outcome : (o : Outcome) (f : Fields) → readingBy o f .outcome ≡ o
@@ -80,17 +78,3 @@ module _ (f : Fields) where
 
   pub after-accepted : (p : Outcome) {o : Outcome} {r : Reading} → r ≡ readingBy p f → o ≡ Accepted → r ≡ readingBy (o then p) f
   after-accepted p {o} e q = e ∙ ap (λ x. readingBy x f) (sym (then-first o p q))
-
--- A check of fields alone.
-module _ (f : Fields) {r : Reading} where
-  pub check-answer : {o : Outcome} → o ≡ inOrder (sizeTests f) → r ≡ readingBy (o then inOrder (limitTests f)) f → r ≡ checkOf f
-  unfolding checkOf fieldsOutcome
-  check-answer p e = e ∙ ap (λ x. readingBy x f) (ap (λ x. x then inOrder (limitTests f)) p ∙ sym (inOrder-append (sizeTests f) (limitTests f)))
-
-  pub check-decides : r ≡ checkOf f → Decides (Within f) (fieldConditions f) (r .outcome)
-  unfolding checkOf
-  check-decides e = rw (e, reading-outcome (fieldsOutcome f) f) (decides (fields-tested f))
-
-  pub check-reads : r ≡ checkOf f → Reads r
-  unfolding checkOf
-  check-reads e = rw e (reading-promised f (fieldsOutcome f) (accepts (decides (fields-tested f)) .0))

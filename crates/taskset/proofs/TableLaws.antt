@@ -7,15 +7,15 @@ use Rattle.refusal.specs.Conditions.{Condition, Tested}
 use Rattle.refusal.specs.declared.Cause.{Cause}
 use Rattle.refusal.specs.declared.Outcome.{Outcome}
 use Rattle.refusal.specs.declared.Outcome.the-variants.{Accepted}
-use Rattle.refusal.proofs.TestLaws.{outcome-cases, then-accepted, then-refused, by-accepted, by-refused, by-both}
+use Rattle.refusal.proofs.TestLaws.{outcome-cases, inOrder-append, then-accepted, then-refused, by-accepted, by-refused, by-both}
 use Rattle.refusal.proofs.ConditionLaws.{then-reports, none-append, join, decides, accepts}
-use Rattle.taskset.specs.Tests.{limitTests}
+use Rattle.taskset.specs.Tests.{sizeTests, limitTests, fieldsOutcome}
 use Rattle.taskset.specs.Reading.{taskSetOf, refusedReading, acceptedReading, readingBy}
 use Rattle.taskset.specs.Limits.{Sized, Within, limits, Reads}
-use Rattle.taskset.specs.Table.{Table, also, readingOf, Decided, Sound}
+use Rattle.taskset.specs.Table.{Table, bare, also, readingOf, Decided, Sound}
 use Rattle.taskset.specs.declared.Fields.{Fields}
 use Rattle.taskset.specs.declared.Reading.{Reading}
-use Rattle.taskset.proofs.LimitLaws.{limits-reported, limits-kept, within-kept}
+use Rattle.taskset.proofs.LimitLaws.{limits-reported, limits-kept, within-kept, fields-tested}
 use Rattle.taskset.proofs.ReadingLaws.{reading-outcome, reading-promised}
 
 -- The limits of fields, after tests that accept only right sizes.
@@ -111,3 +111,17 @@ pub answers-alike : (t u : Table) → readingOf t ≡ readingOf u → {A : Type 
     → byOutcome refuses answers (t .outcome) (t .fields) ≡ byOutcome refuses answers (u .outcome) (u .fields)
 answers-alike t u e refuses answers =
     sym (read-answer t refl refuses answers) ∙ ap (λ r. byOutcome refuses answers (r .outcome) (r .tasks .fields)) e ∙ read-answer u refl refuses answers
+
+-- ---- fields by themselves
+
+pub bare-sound : (f : Fields) → Sound (bare f)
+unfolding bare
+bare-sound f = record { tested = fields-tested f; within = λ w. w }
+
+-- the step of the check: the sizes are tested first, then the limits
+pub bare-read : (f : Fields) {o : Outcome} {r : Reading} → o ≡ inOrder (sizeTests f) → r ≡ readingBy (o then inOrder (limitTests f)) f
+    → (r ≡ readingOf (bare f)) × (Decided (bare f) (r .outcome) × Reads r)
+unfolding readingOf bare fieldsOutcome
+bare-read f {r = r} p h =
+    let a : r ≡ readingOf (bare f) = h ∙ ap (λ x. readingBy x f) (ap (λ x. x then inOrder (limitTests f)) p ∙ sym (inOrder-append (sizeTests f) (limitTests f))) in
+    (a, (read-decided _ a (bare-sound f), read-reads _ a (bare-sound f)))

@@ -30,7 +30,7 @@ pub record Within (f : Fields) : Type 0 where
   pub periods : (k : ℕ) → k < f .n → (1 ≤ periodAt f k) × (periodAt f k ≤ 10000)
   pub budgets : (k : ℕ) → k < f .n → (1 ≤ budgetAt f k) × (budgetAt f k ≤ periodAt f k)
   pub costs : (k : ℕ) → k < f .n → budgetAt f k + f .charge ≤ periodAt f k
-  pub listed : f .given ≡ f .n
+  pub counted : f .given ≡ f .n
   pub affinities : (k : ℕ) → k < f .n → CoreByte (f .m) (affinityAt f k)
   pub multiple : hyperperiodOf f ≤ 1000000
 

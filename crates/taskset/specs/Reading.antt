@@ -9,7 +9,7 @@ use Rattle.refusal.specs.declared.Cause.{Cause}
 use Rattle.refusal.specs.declared.Outcome.{Outcome}
 use Rattle.refusal.specs.declared.Outcome.the-variants.{Accepted, Refused}
 use Rattle.taskset.specs.Demands.{hyperperiodOf, demandOf}
-use Rattle.taskset.specs.Tests.{exceeds, fieldsOutcome}
+use Rattle.taskset.specs.Tests.{exceeds}
 use Rattle.taskset.specs.declared.Fields.{Fields}
 use Rattle.taskset.specs.declared.Multiple.{Multiple}
 use Rattle.taskset.specs.declared.TaskSet.{TaskSet}
@@ -45,7 +45,3 @@ acceptedReading f = record { outcome = Accepted; tasks = taskSetOf f }
 -- the whole answer, by the outcome of the tests
 unfoldable pub readingBy : Outcome → Fields → Reading
 readingBy = byOutcome refusedReading acceptedReading
-
--- the answer for fields alone
-unfoldable pub checkOf : Fields → Reading
-checkOf f = readingBy (fieldsOutcome f) f

@@ -4,7 +4,8 @@ use Rattle.refusal.specs.Tests.{_then_}
 use Rattle.refusal.specs.Conditions.{Condition, Decides, Tested}
 use Rattle.refusal.specs.declared.Outcome.{Outcome}
 use Rattle.taskset.specs.Reading.{readingBy}
-use Rattle.taskset.specs.Limits.{Within}
+use Rattle.taskset.specs.Tests.{fieldsOutcome}
+use Rattle.taskset.specs.Limits.{Within, fieldConditions}
 use Rattle.taskset.specs.declared.Fields.{Fields}
 use Rattle.taskset.specs.declared.Reading.{Reading}
 
@@ -15,6 +16,10 @@ pub record Table : Type 1 where
   pub outcome : Outcome
   pub Valid : Type 0
   pub conditions : List Condition
+
+-- fields that stand in no bytes, as a table
+unfoldable pub bare : Fields → Table
+bare f = record { fields = f; outcome = fieldsOutcome f; Valid = Within f; conditions = fieldConditions f }
 
 -- the table with tests of a call behind its own: their outcome, their limits and their refusals
 abbrev pub also : Table → Outcome → Type 0 → List Condition → Table

@@ -4,12 +4,12 @@ ghost use Prim.Native.Nat.{_/_, _≤_, _<_};
 ghost use Rattle.numbers.specs.First.{first};
 ghost use Rattle.numbers.specs.Rows.{row};
 ghost use Rattle.refusal.specs.Tests.{_then_, inOrder};
-ghost use Rattle.refusal.specs.Conditions.{Decides};
 ghost use Rattle.refusal.specs.declared.Outcome.the-variants.{Accepted};
 ghost use Rattle.taskset.specs.Demands.{hyperperiodOf, demandOf};
 ghost use Rattle.taskset.specs.Tests.{tasksTest, coresTest, chargeTest, badPeriod, badBudget, badCost, badAffinity, periodsTest, budgetsTest, costsTest, rowTest, affinityTest, hyperperiodTest, sizeTests, limitTests};
-ghost use Rattle.taskset.specs.Reading.{multipleOf, refusedReading, acceptedReading, readingBy, checkOf};
-ghost use Rattle.taskset.specs.Limits.{Sized, Within, fieldConditions, Reads};
+ghost use Rattle.taskset.specs.Reading.{multipleOf, refusedReading, acceptedReading, readingBy};
+ghost use Rattle.taskset.specs.Limits.{Sized, Within, Reads};
+ghost use Rattle.taskset.specs.Table.{bare, readingOf, Decided};
 use refusal::Cause;
 use refusal::Outcome;
 
@@ -361,8 +361,8 @@ pub fn check_after(before: Outcome, f: Fields) -> Reading
 
 // Checks fields: their task set, or the first cause of refusal.
 pub fn check(f: Fields) -> Reading
-    ensures answer { λ r. ⌜ r ≡ checkOf f ⌝ }
-    ensures decides { λ r. ⌜ Decides (Within f) (fieldConditions f) (r .outcome) ⌝ }
+    ensures answer { λ r. ⌜ r ≡ readingOf (bare f) ⌝ }
+    ensures decides { λ r. ⌜ Decided (bare f) (r .outcome) ⌝ }
     ensures reads { λ r. ⌜ Reads r ⌝ }
 {
     let sizes = size_tests(f);

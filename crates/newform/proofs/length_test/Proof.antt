@@ -1,9 +1,0 @@
--- The test is the definition.
-use borrow.Author.Needs.{needs}
-use Rattle.newform.proofs.length_test.Statement.{statement}
-use Rattle.newform.proofs.length_test.Tie as tie
-
-pub length-test-spec : {M : Type 1} → statement M
-length-test-spec =
-    tie.close (tie.spec (λ c κs. search needs) (λ c. search needs) (λ c. search needs) (λ c κs. search needs)
-    (λ c. rw (← c .before .task-count .ensures .0) (c .refuse-if .ensures)))
