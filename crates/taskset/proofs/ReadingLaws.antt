@@ -9,7 +9,7 @@ use Rattle.refusal.specs.declared.Cause.{Cause}
 use Rattle.refusal.specs.declared.Outcome.{Outcome}
 use Rattle.refusal.specs.declared.Outcome.the-variants.{Accepted, Refused}
 use Rattle.refusal.proofs.CauseLaws.{number-range}
-use Rattle.refusal.proofs.TestLaws.{accepted≢refused, outcome-cases, then-first, then-refused, by-says}
+use Rattle.refusal.proofs.TestLaws.{accepted≢refused, outcome-cases, then-accepted, then-first, then-refused, by-says}
 use Rattle.refusal.proofs.TestLaws as tests
 use Rattle.taskset.specs.Tests.{sizeTests, limitTests}
 use Rattle.taskset.specs.Reading.{taskSetOf, noTasks, refusedReading, acceptedReading, readingBy}
@@ -78,3 +78,10 @@ module _ (f : Fields) where
 
   pub after-accepted : (p : Outcome) {o : Outcome} {r : Reading} → r ≡ readingBy p f → o ≡ Accepted → r ≡ readingBy (o then p) f
   after-accepted p {o} e q = e ∙ ap (λ x. readingBy x f) (sym (then-first o p q))
+
+-- tests made behind those of a reading
+pub behind-accepted : (r : Reading) → Reads r → (t : Outcome) {o : Outcome} → o ≡ r .outcome then t → o ≡ Accepted → r ≡ readingBy (r .outcome then t) (r .tasks .fields)
+unfolding readingBy acceptedReading
+behind-accepted r s t p q =
+    let a = then-accepted (r .outcome) t (sym p ∙ q) .0 in
+    (λ i. record { outcome = a i; tasks = s .checked a .is i }) ∙ sym (tests.by-accepted refusedReading acceptedReading (r .tasks .fields) (sym p ∙ q))

@@ -1,18 +1,20 @@
 -- What a sound table's reading says, and what a call that goes by it answers.
+use Prim.Native.Nat.{ℕ}
 use mathlib.Core.Path.{_≡_, refl, sym, _∙_, ap, ap₂}
 use mathlib.Core.List.{List, _++_}
 use mathlib.Core.Logic.{⊎-elim, _↔_}
+use Rattle.refusal.specs.Causes.{numberOf, placeOf}
 use Rattle.refusal.specs.Tests.{_then_, inOrder, byOutcome}
 use Rattle.refusal.specs.Conditions.{Condition, Tested}
 use Rattle.refusal.specs.declared.Cause.{Cause}
 use Rattle.refusal.specs.declared.Outcome.{Outcome}
 use Rattle.refusal.specs.declared.Outcome.the-variants.{Accepted}
 use Rattle.refusal.proofs.TestLaws.{outcome-cases, inOrder-append, then-accepted, then-refused, by-accepted, by-refused, by-both}
-use Rattle.refusal.proofs.ConditionLaws.{then-reports, none-append, join, decides, accepts}
+use Rattle.refusal.proofs.ConditionLaws.{then-reports, none-append, join, room-tested, decides, accepts}
 use Rattle.taskset.specs.Tests.{sizeTests, limitTests, fieldsOutcome}
 use Rattle.taskset.specs.Reading.{taskSetOf, refusedReading, acceptedReading, readingBy}
 use Rattle.taskset.specs.Limits.{Sized, Within, limits, Reads}
-use Rattle.taskset.specs.Table.{Table, bare, also, readingOf, Decided, Sound}
+use Rattle.taskset.specs.Table.{Table, bare, also, lent, readingOf, Decided, Sound}
 use Rattle.taskset.specs.declared.Fields.{Fields}
 use Rattle.taskset.specs.declared.Reading.{Reading}
 use Rattle.taskset.proofs.LimitLaws.{limits-reported, limits-kept, within-kept, fields-tested}
@@ -37,6 +39,10 @@ read-after shape h p e = h ∙ rw (p, e)
 -- A call's own tests behind those of a sound table.
 pub also-sound : {t : Table} {tests : Outcome} {Good : Type 0} {more : List Condition} → Sound t → Tested Good more tests → Sound (also t tests Good more)
 also-sound s h = record { tested = join (s .tested) h; within = λ v. s .within (v .0) }
+
+-- A lent output behind a sound table.
+pub lent-sound : {t : Table} → Sound t → (cause : Cause) → placeOf cause ≡ 0 → (size room : ℕ) → Sound (lent cause (numberOf cause) t size room)
+lent-sound s cause z size room = also-sound s (room-tested cause z size room)
 
 -- ---- a sound table
 
@@ -94,6 +100,16 @@ module _ (t : Table) {r : Reading} (e : r ≡ readingOf t) where
         (λ q. p ∙ ap₂ _then_ read-outcome (ap test (read-fields q)))
         (λ q. p ∙ then-refused _ _ (q .0) (q .1) ∙ sym (then-refused _ _ (q .0) (sym read-outcome ∙ q .1)))
         (outcome-cases (r .outcome))
+
+    -- so the reading with the test behind it is that of the table with it
+    pub also-reading : (Good : Type 0) (more : List Condition) {q : Reading} → q ≡ readingBy o (r .tasks .fields) → q ≡ readingOf (also t (test (t .fields)) Good more)
+    unfolding readingOf readingBy
+    also-reading Good more h =
+        h
+        ∙ by-both refusedReading acceptedReading (λ a. a ≡ byOutcome refusedReading acceptedReading o (t .fields)) o (r .tasks .fields)
+        (λ c x. sym (by-refused refusedReading acceptedReading (t .fields) x))
+        (λ x. ap acceptedReading (read-fields (then-accepted _ _ (sym p ∙ x) .0)) ∙ sym (by-accepted refusedReading acceptedReading (t .fields) x))
+        ∙ ap (λ x. byOutcome refusedReading acceptedReading x (t .fields)) also-read
 
     pub also-well : o ≡ Accepted → r .outcome ≡ Accepted
     also-well q = then-accepted _ _ (sym p ∙ q) .0

@@ -1,7 +1,9 @@
 -- A table as a call is given it: one value, whatever the bytes that it is stored in and what stands beside them.
-use mathlib.Core.List.{List, _++_}
-use Rattle.refusal.specs.Tests.{_then_}
-use Rattle.refusal.specs.Conditions.{Condition, Decides, Tested}
+use Prim.Native.Nat.{ℕ, _≤_}
+use mathlib.Core.List.{List, [], _∷_, _++_}
+use Rattle.refusal.specs.Tests.{_then_, roomTest}
+use Rattle.refusal.specs.Conditions.{Condition, Decides, Tested, noRoom}
+use Rattle.refusal.specs.declared.Cause.{Cause}
 use Rattle.refusal.specs.declared.Outcome.{Outcome}
 use Rattle.taskset.specs.Reading.{readingBy}
 use Rattle.taskset.specs.Tests.{fieldsOutcome}
@@ -24,6 +26,11 @@ bare f = record { fields = f; outcome = fieldsOutcome f; Valid = Within f; condi
 -- the table with tests of a call behind its own: their outcome, their limits and their refusals
 abbrev pub also : Table → Outcome → Type 0 → List Condition → Table
 also t tests Good more = record { fields = t .fields; outcome = t .outcome then tests; Valid = t .Valid × Good; conditions = t .conditions ++ more }
+
+-- the table with a lent output of this room in which so many bytes are to stand: the room is tested behind the table's own tests, with this
+-- cause, whose number this is
+abbrev pub lent : Cause → ℕ → Table → ℕ → ℕ → Table
+lent cause number t size room = also t (roomTest cause size room) (size ≤ room) (noRoom number size room ∷ [])
 
 -- what reading a table gives
 unfoldable pub readingOf : Table → Reading

@@ -359,6 +359,19 @@ pub fn check_after(before: Outcome, f: Fields) -> Reading
     }
 }
 
+// A reading with tests of a call behind those that it went by.
+pub fn also(reading: Reading, tests: Outcome) -> Reading
+    requires { ⌜ Reads reading ⌝ }
+    ensures { λ r. ⌜ r ≡ readingBy (reading .outcome then tests) (reading .tasks .fields) ⌝ }
+{
+    let read = reading.outcome;
+    let outcome = refusal::then(read, tests);
+    match outcome {
+        Outcome::Refused(cause) => refused(cause),
+        Outcome::Accepted => reading,
+    }
+}
+
 // Checks fields: their task set, or the first cause of refusal.
 pub fn check(f: Fields) -> Reading
     ensures answer { λ r. ⌜ r ≡ readingOf (bare f) ⌝ }

@@ -14,17 +14,13 @@ use Rattle.numbers.proofs.BoundLaws.{unequal-exactly, not-unequal}
 use Rattle.numbers.proofs.FirstLaws.{first-zero, first-is, first-clear}
 use Rattle.affinity.specs.Permitted.{everyCore}
 use Rattle.affinity.proofs.PermittedLaws.{every-byte, every-permits, some-barred}
-use Rattle.refusal.specs.Tests.{refuseIf}
 use Rattle.refusal.specs.declared.Cause.the-variants.{Filling}
-use Rattle.refusal.specs.declared.Outcome.the-variants.{Accepted}
-use Rattle.refusal.proofs.TestLaws.{refuseIf-accepted}
 use Rattle.refusal.specs.Conditions.{Tested}
 use Rattle.refusal.proofs.ConditionLaws.{test-only}
 use Rattle.taskset.specs.Fields.{affinityAt, Free, Tied}
 use Rattle.taskset.specs.Limits.{Within}
 use Rattle.taskset.specs.declared.Fields.{Fields}
-use Rattle.transfer.specs.Calls.{otherByte, fillingTest}
-use Rattle.transfer.specs.Limits.{otherFilling}
+use Rattle.transfer.specs.Tables.{otherByte, fillingTest, otherFilling}
 
 -- numbers that a test does not find unequal
 equal : (a b : ℕ) → not (eqb a b) ≡ false → a ≡ b
@@ -65,16 +61,9 @@ module _ (f : Fields) where
   unfolding otherByte
   other k t e = unequal-exactly (affinityAt f k) (everyCore (f .m)) .0 t e
 
-  pub filling-filled : fillingTest f ≡ Accepted → (f .charge ≡ 0) × Every
-  filling-filled q = filled (refuseIf-accepted tested Filling q)
-
-  pub filling-accepts : f .charge ≡ 0 → Every → fillingTest f ≡ Accepted
-  unfolding refuseIf
-  filling-accepts c every = rw (fills c every)
-
   -- The byte of every core is the one that permits each of them.
   module _ (w : Within f) where
-    every-free : Every → Free f
+    pub every-free : Every → Free f
     every-free every k h core l g = rw (every k h) (every-permits (f .m) (w .sizes .cores .1) core l g)
 
     pub free-every : Free f → Every

@@ -8,10 +8,9 @@ use lib.Dec.{ltb}
 use lib.ListN.{length, drop, length-append, length-drop}
 use lib.Seq.{take-at, drop-at}
 use native.Mathlib.Omega.{arith}
-use borrow.Author.Tests.{le-ltb}
 use Rattle.numbers.proofs.BoundLaws.{less-exactly, not-less}
 use Rattle.refusal.specs.Causes.{numberOf, placeOf, numberIn}
-use Rattle.refusal.specs.Tests.{_then_, refuseIf, roomTest, byOutcome}
+use Rattle.refusal.specs.Tests.{_then_, roomTest, byOutcome}
 use Rattle.refusal.specs.Conditions.{Condition, Tested, noRoom}
 use Rattle.refusal.specs.declared.Cause.{Cause}
 use Rattle.refusal.specs.declared.Outcome.{Outcome}
@@ -19,54 +18,67 @@ use Rattle.refusal.specs.declared.Outcome.the-variants.{Accepted, Refused}
 use Rattle.refusal.proofs.TestLaws.{outcome-cases, then-accepted, then-refused, refuseIf-accepted, by-says}
 use Rattle.refusal.proofs.ConditionLaws.{join-after, room-tested}
 use Rattle.refusal.proofs.CauseLaws.{number-range}
-use Rattle.transfer.specs.Lent.{answerBy, outputBy, answerOf, outputOf}
-use Rattle.transfer.specs.Promise.{Stores, storedIn, Yields}
+use Rattle.taskset.specs.Limits.{Within, Reads}
+use Rattle.taskset.specs.declared.Fields.{Fields}
+use Rattle.taskset.specs.declared.Reading.{Reading}
+use Rattle.transfer.specs.Lent.{transferBy, outputBy, transferAfter, outputAfter}
+use Rattle.transfer.specs.Promise.{Stores, storedIn}
 use Rattle.transfer.specs.declared.Transfer.{Transfer}
 
 -- there is room where the test accepts
 room-there : (cause : Cause) (size room : ℕ) → roomTest cause size room ≡ Accepted → size ≤ room
 room-there cause size room e = not-less room size (λ h. true≢false (sym (less-exactly room size .1 h) ∙ refuseIf-accepted (ltb room size) cause e))
 
--- The steps of a program that tests, and writes where all tests accept.
-module _ (cause : Cause) (before : Outcome) (bytes out : List ℕ) (size : ℕ) (long : before ≡ Accepted → length bytes ≡ size) {o : Outcome} (p : o ≡ before then roomTest cause size (length out)) where
-  same-outcome : o ≡ before then roomTest cause (length bytes) (length out)
+-- The steps of a program that goes by a reading, tests the room, and writes where all tests accept.
+module _ (cause : Cause) (bytes : Fields → List ℕ) (size : ℕ → ℕ) (long : (f : Fields) → Within f → length (bytes f) ≡ size (f .n))
+    (g : Reading) (s : Reads g) (out : List ℕ) {o : Outcome} (p : o ≡ g .outcome then roomTest cause (size (g .tasks .fields .n)) (length out)) where
+  abbrev f : Fields
+  f = g .tasks .fields
+
+  long-accepted : g .outcome ≡ Accepted → length (bytes f) ≡ size (f .n)
+  long-accepted q = long f (s .checked q .within)
+
+  same-outcome : o ≡ g .outcome then roomTest cause (length (bytes f)) (length out)
   same-outcome =
       ⊎-elim
-      (λ q. rw (long q) p)
-      (λ q. p ∙ then-refused before _ (q .0) (q .1) ∙ sym (then-refused before _ (q .0) (q .1)))
-      (outcome-cases before)
+      (λ q. rw (long-accepted q) p)
+      (λ q. p ∙ then-refused (g .outcome) _ (q .0) (q .1) ∙ sym (then-refused (g .outcome) _ (q .0) (q .1)))
+      (outcome-cases (g .outcome))
 
-  pub store-before : o ≡ Accepted → before ≡ Accepted
-  store-before q = then-accepted before _ (sym p ∙ q) .0
+  accepted-before : o ≡ Accepted → g .outcome ≡ Accepted
+  accepted-before q = then-accepted (g .outcome) _ (sym p ∙ q) .0
 
-  pub store-room : o ≡ Accepted → size ≤ length out
-  store-room q = room-there cause size (length out) (then-accepted before _ (sym p ∙ q) .1)
+  pub store-ready : o ≡ Accepted → Within f × (size (f .n) ≤ length out)
+  store-ready q = (s .checked (accepted-before q) .within, room-there cause (size (f .n)) (length out) (then-accepted (g .outcome) _ (sym p ∙ q) .1))
 
-  pub store-refused : {c : Cause} {r : Transfer} → o ≡ Refused c → r ≡ answerBy o size → (r ≡ answerOf cause before bytes (length out)) × (out ≡ outputOf cause before bytes out)
-  unfolding answerOf outputOf answerBy outputBy byOutcome
+  pub store-refused : {c : Cause} {r : Transfer} → o ≡ Refused c → r ≡ transferBy o (size (f .n))
+      → (r ≡ transferAfter cause (g .outcome) (bytes f) (length out)) × (out ≡ outputAfter cause (g .outcome) (bytes f) out)
+  unfolding transferAfter outputAfter transferBy outputBy byOutcome
   store-refused {c} q e = (e ∙ rw (← same-outcome, q), rw (← same-outcome, q))
 
-  pub store-accepted : {r : Transfer} {after : List ℕ} → o ≡ Accepted → r ≡ answerBy o size → after ≡ bytes ++ drop (length bytes) out
-      → (r ≡ answerOf cause before bytes (length out)) × (after ≡ outputOf cause before bytes out)
-  unfolding answerOf outputOf answerBy outputBy byOutcome
-  store-accepted q e w = (e ∙ rw (← same-outcome, q, long (store-before q)), w ∙ rw (← same-outcome, q))
+  pub store-accepted : {r : Transfer} {after : List ℕ} → o ≡ Accepted → r ≡ transferBy o (size (f .n)) → after ≡ bytes f ++ drop (length (bytes f)) out
+      → (r ≡ transferAfter cause (g .outcome) (bytes f) (length out)) × (after ≡ outputAfter cause (g .outcome) (bytes f) out)
+  unfolding transferAfter outputAfter transferBy outputBy byOutcome
+  store-accepted q e w = (e ∙ rw (← same-outcome, q, long-accepted (accepted-before q)), w ∙ rw (← same-outcome, q))
 
-  pub store-same : {after : List ℕ} → o ≡ Accepted → after ≡ bytes ++ drop (length bytes) out → length after ≡ length out
-  store-same q w = rw (w, length-append bytes (drop (length bytes) out), length-drop (length bytes) out) (omega (arith, store-room q, long (store-before q)))
+  pub store-same : {after : List ℕ} → o ≡ Accepted → after ≡ bytes f ++ drop (length (bytes f)) out → length after ≡ length out
+  store-same q w =
+      rw (w, length-append (bytes f) (drop (length (bytes f)) out), length-drop (length (bytes f)) out)
+      (omega (arith, store-ready q .1, long-accepted (accepted-before q)))
 
 -- Outcomes that are the same, with bytes that are where they accept, give the same answer and output.
 module _ (cause : Cause) {o p : Outcome} (e : o ≡ p) {b d : List ℕ} (h : p ≡ Accepted → b ≡ d) where
-  pub answer-same : (room : ℕ) → answerOf cause o b room ≡ answerOf cause p d room
-  unfolding answerOf answerBy byOutcome
-  answer-same room =
+  pub transfer-same : (room : ℕ) → transferAfter cause o b room ≡ transferAfter cause p d room
+  unfolding transferAfter transferBy byOutcome
+  transfer-same room =
       rw e
       (⊎-elim
       (λ q. rw (h q))
       (λ q. rw (then-refused p (roomTest cause (length b) room) (q .0) (q .1), then-refused p (roomTest cause (length d) room) (q .0) (q .1)))
       (outcome-cases p))
 
-  pub output-same : (out : List ℕ) → outputOf cause o b out ≡ outputOf cause p d out
-  unfolding outputOf outputBy byOutcome
+  pub output-same : (out : List ℕ) → outputAfter cause o b out ≡ outputAfter cause p d out
+  unfolding outputAfter outputBy byOutcome
   output-same out =
       rw e
       (⊎-elim
@@ -75,13 +87,13 @@ module _ (cause : Cause) {o p : Outcome} (e : o ≡ p) {b d : List ℕ} (h : p �
       (outcome-cases p))
 
 -- the outcome of an answer is that of all tests
-by-outcome : (o : Outcome) (size : ℕ) → answerBy o size .outcome ≡ o
-unfolding answerBy
+by-outcome : (o : Outcome) (size : ℕ) → transferBy o size .outcome ≡ o
+unfolding transferBy
 by-outcome o size = by-says _ _ (λ (r : Transfer). r .outcome) (λ c. refl) (λ x. refl) o size
 
-pub answer-outcome : (cause : Cause) (before : Outcome) (bytes : List ℕ) (room : ℕ) → answerOf cause before bytes room .outcome ≡ before then roomTest cause (length bytes) room
-unfolding answerOf
-answer-outcome cause before bytes room = by-outcome (before then roomTest cause (length bytes) room) (length bytes)
+pub transfer-outcome : (cause : Cause) (before : Outcome) (bytes : List ℕ) (room : ℕ) → transferAfter cause before bytes room .outcome ≡ before then roomTest cause (length bytes) room
+unfolding transferAfter
+transfer-outcome cause before bytes room = by-outcome (before then roomTest cause (length bytes) room) (length bytes)
 
 -- The tests before, then number 8, decide.
 pub stored-tested : {Good : Type 0} {cs : List Condition} (cause : Cause) → placeOf cause ≡ 0 → (before : Outcome) (bytes : List ℕ) (size room : ℕ) → Tested Good cs before
@@ -91,12 +103,12 @@ stored-tested cause z before bytes size room t long = join-after t (λ n. rw (lo
 -- What an answer and an output of the definitions promise.
 module _ (cause : Cause) (Form : List ℕ → Type 0) (size : ℕ) (before : Outcome) (bytes out : List ℕ)
     (long : before ≡ Accepted → length bytes ≡ size) (form : before ≡ Accepted → (behind : List ℕ) → Form (bytes ++ behind))
-    {r : Transfer} {after : List ℕ} (e : r ≡ answerOf cause before bytes (length out)) (g : after ≡ outputOf cause before bytes out) where
+    {r : Transfer} {after : List ℕ} (e : r ≡ transferAfter cause before bytes (length out)) (g : after ≡ outputAfter cause before bytes out) where
   abbrev all : Outcome
   all = before then roomTest cause (length bytes) (length out)
 
   outcome-is : r .outcome ≡ all
-  outcome-is = ap (λ x. x .outcome) e ∙ answer-outcome cause before bytes (length out)
+  outcome-is = ap (λ x. x .outcome) e ∙ transfer-outcome cause before bytes (length out)
 
   -- of an accepted call,
   module _ (q : r .outcome ≡ Accepted) where
@@ -110,11 +122,11 @@ module _ (cause : Cause) (Form : List ℕ → Type 0) (size : ℕ) (before : Out
     room = room-there cause (length bytes) (length out) (then-accepted before _ accepted .1)
 
     length-is : r .length ≡ length bytes
-    unfolding answerOf answerBy byOutcome
+    unfolding transferAfter transferBy byOutcome
     length-is = ap (λ x. x .length) e ∙ rw accepted
 
     after-is : after ≡ bytes ++ drop (length bytes) out
-    unfolding outputOf outputBy byOutcome
+    unfolding outputAfter outputBy byOutcome
     after-is = g ∙ rw accepted
 
     pub stored-is : storedIn r after ≡ bytes
@@ -126,11 +138,11 @@ module _ (cause : Cause) (Form : List ℕ → Type 0) (size : ℕ) (before : Out
     refused-by = ⊎-elim (λ q. absurd (n (ap numberIn (outcome-is ∙ q)))) (λ q. q) (outcome-cases all)
 
     length-none : r .length ≡ 0
-    unfolding answerOf answerBy byOutcome
+    unfolding transferAfter transferBy byOutcome
     length-none = ap (λ x. x .length) e ∙ rw (refused-by .1)
 
     after-same : after ≡ out
-    unfolding outputOf outputBy byOutcome
+    unfolding outputAfter outputBy byOutcome
     after-same = g ∙ rw (refused-by .1)
 
   pub stored-keeps : Stores Form size out r after
@@ -147,10 +159,3 @@ module _ (cause : Cause) (Form : List ℕ → Type 0) (size : ℕ) (before : Out
         (outcome-cases all);
   }
 
--- A call whose tests accept gives its bytes, wherever there is room.
-pub yields : (cause : Cause) (before : Outcome) (bytes s : List ℕ) → before ≡ Accepted → bytes ≡ s → Yields (answerOf cause before bytes) (outputOf cause before bytes) s
-unfolding answerOf answerBy outputOf outputBy byOutcome refuseIf _then_
-yields cause before bytes s q e = record {
-  answers = λ room h. rw (q, e, le-ltb room (length s) h);
-  outputs = λ out h. rw (q, e, le-ltb (length out) (length s) h);
-}

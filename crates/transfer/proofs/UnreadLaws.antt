@@ -21,7 +21,7 @@ use Rattle.taskset.specs.Limits.{Within}
 use Rattle.taskset.specs.declared.Fields.{Fields}
 use Rattle.taskset.proofs.LimitLaws.{fields-tested, periods-there, budgets-there, affinity-there}
 use Rattle.newform.specs.Form.{newBytes}
-use Rattle.transfer.specs.Calls.{listed}
+use Rattle.transfer.specs.Tables.{counted}
 
 -- fields that the tests accept are within the limits
 pub tested-within : (f : Fields) → fieldsOutcome f ≡ Accepted → Within f
@@ -38,38 +38,38 @@ module _ (f g : Fields) (a : Alike f g) where
   same-first : (p q : ℕ → Bool) → ((k : ℕ) → k < f .n → p k ≡ q k) → first p (f .n) ≡ first q (g .n)
   same-first p q h = first-cong p q (f .n) h ∙ ap (first q) (a .tasks)
 
-  same-period : first (badPeriod (listed f)) (f .n) ≡ first (badPeriod (listed g)) (g .n)
+  same-period : first (badPeriod (counted f)) (f .n) ≡ first (badPeriod (counted g)) (g .n)
   unfolding badPeriod
   same-period = same-first _ _ (λ k h. rw (a .periods k h))
 
-  same-budget : first (badBudget (listed f)) (f .n) ≡ first (badBudget (listed g)) (g .n)
+  same-budget : first (badBudget (counted f)) (f .n) ≡ first (badBudget (counted g)) (g .n)
   unfolding badBudget
   same-budget = same-first _ _ (λ k h. rw (a .periods k h, a .budgets k h))
 
-  same-cost : first (badCost (listed f)) (f .n) ≡ first (badCost (listed g)) (g .n)
+  same-cost : first (badCost (counted f)) (f .n) ≡ first (badCost (counted g)) (g .n)
   unfolding badCost
   same-cost = same-first _ _ (λ k h. rw (a .periods k h, a .budgets k h, a .charge))
 
-  same-affinity : first (badAffinity (listed f)) (f .n) ≡ first (badAffinity (listed g)) (g .n)
+  same-affinity : first (badAffinity (counted f)) (f .n) ≡ first (badAffinity (counted g)) (g .n)
   unfolding badAffinity
   same-affinity = same-first _ _ (λ k h. rw (a .affinity k h, a .cores))
 
-  same-multiple : first (exceeds (listed f)) (f .n) ≡ first (exceeds (listed g)) (g .n)
+  same-multiple : first (exceeds (counted f)) (f .n) ≡ first (exceeds (counted g)) (g .n)
   unfolding exceeds multipleTo
   same-multiple = same-first _ _ (λ k h. ap (ltb 1000000) (lcms-cong (periodAt f) (periodAt g) (k + 1) (λ j b. a .periods j (omega arith))))
 
-  pub outcome-alike : fieldsOutcome (listed f) ≡ fieldsOutcome (listed g)
+  pub outcome-alike : fieldsOutcome (counted f) ≡ fieldsOutcome (counted g)
   unfolding fieldsOutcome
   outcome-alike = rw (same-period, same-budget, same-cost, same-affinity, same-multiple, a .tasks, a .cores, a .charge)
 
   -- so are the bytes of fields that are accepted
-  pub bytes-alike : Within (listed f) → Within (listed g) → newBytes f ≡ newBytes g
+  pub bytes-alike : Within (counted f) → Within (counted g) → newBytes f ≡ newBytes g
   unfolding newBytes
   bytes-alike v w =
       let e = a .tasks in
-      let P = front-same (f .n) (f .periods) (g .periods) (periods-there (listed f) v) (rw e (periods-there (listed g) w)) (a .periods) in
-      let B = front-same (f .n) (f .budgets) (g .budgets) (budgets-there (listed f) v) (rw e (budgets-there (listed g) w)) (a .budgets) in
-      let A = front-same (f .n) (f .affinity) (g .affinity) (affinity-there (listed f) v) (rw e (affinity-there (listed g) w)) (a .affinity) in
+      let P = front-same (f .n) (f .periods) (g .periods) (periods-there (counted f) v) (rw e (periods-there (counted g) w)) (a .periods) in
+      let B = front-same (f .n) (f .budgets) (g .budgets) (budgets-there (counted f) v) (rw e (budgets-there (counted g) w)) (a .budgets) in
+      let A = front-same (f .n) (f .affinity) (g .affinity) (affinity-there (counted f) v) (rw e (affinity-there (counted g) w)) (a .affinity) in
       rw (P, B, A, e, a .cores, a .charge)
 
 -- Fields are equal up to n to themselves cut at n, so these are within the limits too.
@@ -84,8 +84,8 @@ cut-alike f few = record {
   affinity = λ k h. sym (getD-row 0 (f .n) (affinityAt f) k h few);
 }
 
-pub within-cut : (f : Fields) → Within (listed f) → Within (cut f)
+pub within-cut : (f : Fields) → Within (counted f) → Within (cut f)
 unfolding cut
 within-cut f w =
     tested-within (cut f)
-    (sym (outcome-alike f (cut f) (cut-alike f (w .sizes .tasks .1))) ∙ accepts (decides (fields-tested (listed f))) .1 w)
+    (sym (outcome-alike f (cut f) (cut-alike f (w .sizes .tasks .1))) ∙ accepts (decides (fields-tested (counted f))) .1 w)

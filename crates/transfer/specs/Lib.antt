@@ -1,4 +1,3 @@
 pub mod Lent
-pub mod Calls
-pub mod Limits
+pub mod Tables
 pub mod Promise

@@ -5,14 +5,19 @@ use mathlib.Core.List.{List, _++_}
 use mathlib.Core.Logic.{_≢_}
 use lib.ListN.{length, take, drop}
 use Rattle.refusal.specs.Causes.{numberIn}
+use Rattle.refusal.specs.declared.Cause.{Cause}
+use Rattle.refusal.specs.declared.Cause.the-variants.{Buffer}
 use Rattle.refusal.specs.declared.Outcome.the-variants.{Accepted}
 use Rattle.taskset.specs.Fields.{cut, Alike}
 use Rattle.taskset.specs.Reading.{acceptedReading}
 use Rattle.taskset.specs.declared.Fields.{Fields}
-use Rattle.taskset.specs.Table.{readingOf}
+use Rattle.taskset.specs.Table.{Table, readingOf}
+use Rattle.oldform.specs.Form.{oldBytes}
 use Rattle.oldform.specs.Limits.{alone}
+use Rattle.newform.specs.Form.{newBytes}
 use Rattle.newform.specs.Limits.{new}
-use Rattle.transfer.specs.Calls.{writeAnswer, writeOutput, newAnswer, newOutput, oldAnswer, oldOutput}
+use Rattle.transfer.specs.Lent.{transferOf, outputOf}
+use Rattle.transfer.specs.Tables.{written, returned}
 use Rattle.transfer.specs.declared.Transfer.{Transfer}
 
 -- What a call that stores a table of this length does to a lent output, which is `after` at its exit.
@@ -31,10 +36,10 @@ pub record Stores (Form : List ℕ → Type 0) (size : ℕ) (out : List ℕ) (r 
 abbrev pub storedIn : Transfer → List ℕ → List ℕ
 storedIn r after = take (r .length) after
 
--- A call with this answer and this output gives these bytes, wherever there is room for them.
-pub record Yields (answer : ℕ → Transfer) (output : List ℕ → List ℕ) (bytes : List ℕ) : Type 0 where
-  pub answers : (room : ℕ) → length bytes ≤ room → answer room ≡ record { outcome = Accepted; length = length bytes }
-  pub outputs : (out : List ℕ) → length bytes ≤ length out → output out ≡ bytes ++ drop (length bytes) out
+-- A call that stores a table's fields as these bytes gives exactly s, wherever there is room for it.
+pub record Yields (cause : Cause) (bytes : Fields → List ℕ) (t : Table) (s : List ℕ) : Type 0 where
+  pub answers : (room : ℕ) → length s ≤ room → transferOf cause bytes t room ≡ record { outcome = Accepted; length = length s }
+  pub outputs : (out : List ℕ) → length s ≤ length out → outputOf cause bytes t out ≡ s ++ drop (length s) out
 
 -- What the writer was given is read back from what it wrote, cut at n.
 abbrev pub ReadBack : Fields → Transfer → List ℕ → Type 0
@@ -42,14 +47,14 @@ ReadBack f r after = r .outcome ≡ Accepted → readingOf (new (storedIn r afte
 
 -- It reads no entry beyond n: fields that are equal up to n give the same answer and output.
 abbrev pub Unread : Fields → List ℕ → Transfer → List ℕ → Type 0
-Unread f out r after = (g : Fields) → Alike f g → (writeAnswer g (length out) ≡ r) × (writeOutput g out ≡ after)
+Unread f out r after = (g : Fields) → Alike f g → (transferOf Buffer newBytes (written g) (length out) ≡ r) × (outputOf Buffer newBytes (written g) out ≡ after)
 
 -- A table that was moved to the new form reads as it did, so every call on task sets says the same of both; moved back it is the same bytes.
 pub record MovedOn (s : List ℕ) (r : Transfer) (after : List ℕ) : Type 0 where
   pub reads : r .outcome ≡ Accepted → readingOf (new (storedIn r after)) ≡ readingOf (alone s)
-  pub returns : r .outcome ≡ Accepted → Yields (oldAnswer (storedIn r after)) (oldOutput (storedIn r after)) s
+  pub returns : r .outcome ≡ Accepted → Yields Buffer oldBytes (returned (storedIn r after)) s
 
 -- A table that was moved back reads as it did; moved to the new form again it is the same bytes.
 pub record MovedBack (s : List ℕ) (r : Transfer) (after : List ℕ) : Type 0 where
   pub reads : r .outcome ≡ Accepted → readingOf (alone (storedIn r after)) ≡ readingOf (new s)
-  pub returns : r .outcome ≡ Accepted → Yields (newAnswer (storedIn r after)) (newOutput (storedIn r after)) s
+  pub returns : r .outcome ≡ Accepted → Yields Buffer newBytes (alone (storedIn r after)) s

@@ -6,18 +6,19 @@ ghost use lib.ListN.{length, getD, drop};
 ghost use Rattle.numbers.specs.First.{first};
 ghost use Rattle.refusal.specs.Tests.{_then_, roomTest};
 ghost use Rattle.refusal.specs.declared.Cause.the-variants.{Buffer};
-ghost use Rattle.refusal.specs.Conditions.{Decides};
-ghost use Rattle.refusal.specs.declared.Outcome.the-variants.{Accepted};
-ghost use Rattle.taskset.specs.Limits.{Within};
-ghost use Rattle.oldform.specs.Form.{aloneFields, oldBytes, OldForm};
-ghost use Rattle.newform.specs.Form.{newFields, newBytes, NewForm};
-ghost use Rattle.transfer.specs.Lent.{answerBy, answerOf, outputOf};
-ghost use Rattle.transfer.specs.Calls.{listed as listedFields, writeAnswer, writeOutput, newAnswer, newOutput, otherByte, fillingTest, oldAnswer, oldOutput};
-ghost use Rattle.transfer.specs.Limits.{ValidWrite, writeConditions, ValidMoveOn, moveOnConditions, ValidMoveBack, moveBackConditions};
+ghost use Rattle.taskset.specs.Limits.{Within, Reads};
+ghost use Rattle.taskset.specs.Table.{lent, Decided};
+ghost use Rattle.oldform.specs.Form.{oldBytes, OldForm};
+ghost use Rattle.oldform.specs.Limits.{alone};
+ghost use Rattle.newform.specs.Form.{newBytes, NewForm};
+ghost use Rattle.newform.specs.Limits.{new};
+ghost use Rattle.transfer.specs.Lent.{transferBy, transferAfter, outputAfter, transferOf, outputOf};
+ghost use Rattle.transfer.specs.Tables.{counted as countedFields, written, otherByte, fillingTest, returned};
 ghost use Rattle.transfer.specs.Promise.{Stores, ReadBack, Unread, MovedOn, MovedBack};
 use refusal::Cause;
 use refusal::Outcome;
 use taskset::Fields;
+use taskset::Reading;
 
 // The answer of a call that stores a table in a lent output: the table's length, or 0 beside a refusal.
 pub struct Transfer {
@@ -67,7 +68,7 @@ fn room_after(before: Outcome, size: usize, room: usize) -> Outcome
 
 // The answer by the outcome of all tests.
 fn answer(outcome: Outcome, size: usize) -> Transfer
-    ensures { λ r. ⌜ r ≡ answerBy outcome size ⌝ }
+    ensures { λ r. ⌜ r ≡ transferBy outcome size ⌝ }
 {
     match outcome {
         Outcome::Refused(cause) => Transfer {
@@ -81,43 +82,45 @@ fn answer(outcome: Outcome, size: usize) -> Transfer
     }
 }
 
-// Stores fields in the new form after tests that accept only fields within the limits, if there is room.
-fn store_new(before: Outcome, f: Fields, out: &mut [u8]) -> Transfer
-    requires { ⌜ (f .n ≤ 16) × (before ≡ Accepted → Within f) ⌝ }
-    ensures answer { λ r. ⌜ r ≡ answerOf Buffer before (newBytes f) (length (now (out .entry))) ⌝ }
-    ensures output { λ r. ⌜ now (out .exit) ≡ outputOf Buffer before (newBytes f) (now (out .entry)) ⌝ }
+// Stores the fields of a reading in the new form, if it is accepted and there is room.
+fn store_new(reading: Reading, out: &mut [u8]) -> Transfer
+    requires { ⌜ Reads reading ⌝ }
+    ensures answer { λ r. ⌜ r ≡ transferAfter Buffer (reading .outcome) (newBytes (reading .tasks .fields)) (length (now (out .entry))) ⌝ }
+    ensures output { λ r. ⌜ now (out .exit) ≡ outputAfter Buffer (reading .outcome) (newBytes (reading .tasks .fields)) (now (out .entry)) ⌝ }
 {
-    let size = 4 + 9 * f.n;
+    let before = reading.outcome;
+    let size = 4 + 9 * reading.tasks.fields.n;
     let outcome = room_after(before, size, out.len());
     match outcome {
         Outcome::Refused(_) => answer(outcome, size),
         Outcome::Accepted => {
-            put_new(out, f);
+            put_new(out, reading.tasks.fields);
             answer(outcome, size)
         }
     }
 }
 
 // The same in the old form.
-fn store_old(before: Outcome, f: Fields, out: &mut [u8]) -> Transfer
-    requires { ⌜ (f .n ≤ 16) × (before ≡ Accepted → Within f) ⌝ }
-    ensures answer { λ r. ⌜ r ≡ answerOf Buffer before (oldBytes f) (length (now (out .entry))) ⌝ }
-    ensures output { λ r. ⌜ now (out .exit) ≡ outputOf Buffer before (oldBytes f) (now (out .entry)) ⌝ }
+fn store_old(reading: Reading, out: &mut [u8]) -> Transfer
+    requires { ⌜ Reads reading ⌝ }
+    ensures answer { λ r. ⌜ r ≡ transferAfter Buffer (reading .outcome) (oldBytes (reading .tasks .fields)) (length (now (out .entry))) ⌝ }
+    ensures output { λ r. ⌜ now (out .exit) ≡ outputAfter Buffer (reading .outcome) (oldBytes (reading .tasks .fields)) (now (out .entry)) ⌝ }
 {
-    let size = 2 + 8 * f.n;
+    let before = reading.outcome;
+    let size = 2 + 8 * reading.tasks.fields.n;
     let outcome = room_after(before, size, out.len());
     match outcome {
         Outcome::Refused(_) => answer(outcome, size),
         Outcome::Accepted => {
-            put_old(out, f);
+            put_old(out, reading.tasks.fields);
             answer(outcome, size)
         }
     }
 }
 
 // Fields with a core byte for each task, as the new form has it.
-fn listed(f: Fields) -> Fields
-    ensures { λ r. ⌜ r ≡ listedFields f ⌝ }
+fn counted(f: Fields) -> Fields
+    ensures { λ r. ⌜ r ≡ countedFields f ⌝ }
 {
     let periods = f.periods;
     let budgets = f.budgets;
@@ -167,43 +170,39 @@ fn filling_test(f: Fields) -> Outcome
 
 // Writes fields to an output in the new form, if they are within the limits. Entries beyond n are not read.
 pub fn write_new(f: Fields, out: &mut [u8]) -> Transfer
-    ensures answer { λ r. ⌜ r ≡ writeAnswer f (length (now (out .entry))) ⌝ }
-    ensures output { λ r. ⌜ now (out .exit) ≡ writeOutput f (now (out .entry)) ⌝ }
-    ensures decides { λ r. ⌜ Decides (ValidWrite f (length (now (out .entry)))) (writeConditions f (length (now (out .entry)))) (r .outcome) ⌝ }
+    ensures answer { λ r. ⌜ r ≡ transferOf Buffer newBytes (written f) (length (now (out .entry))) ⌝ }
+    ensures output { λ r. ⌜ now (out .exit) ≡ outputOf Buffer newBytes (written f) (now (out .entry)) ⌝ }
+    ensures decides { λ r. ⌜ Decided (lent Buffer 8 (written f) (4 + 9 * f .n) (length (now (out .entry)))) (r .outcome) ⌝ }
     ensures stores { λ r. ⌜ Stores (NewForm f) (4 + 9 * f .n) (now (out .entry)) r (now (out .exit)) ⌝ }
     ensures back { λ r. ⌜ ReadBack f r (now (out .exit)) ⌝ }
     ensures unread { λ r. ⌜ Unread f (now (out .entry)) r (now (out .exit)) ⌝ }
 {
-    let reading = taskset::check(listed(f));
-    let tests = reading.outcome;
-    store_new(tests, reading.tasks.fields, out)
+    let reading = taskset::check(counted(f));
+    store_new(reading, out)
 }
 
 // Moves a table of the old form to an output in the new form: the charge is 0, and each task may use every core.
 pub fn to_new(table: &[u8], out: &mut [u8]) -> Transfer
-    ensures answer { λ r. ⌜ r ≡ newAnswer (now (table .entry)) (length (now (out .entry))) ⌝ }
-    ensures output { λ r. ⌜ now (out .exit) ≡ newOutput (now (table .entry)) (now (out .entry)) ⌝ }
-    ensures decides { λ r. ⌜ Decides (ValidMoveOn (now (table .entry)) (length (now (out .entry)))) (moveOnConditions (now (table .entry)) (length (now (out .entry)))) (r .outcome) ⌝ }
-    ensures stores { λ r. ⌜ Stores (NewForm (aloneFields (now (table .entry)))) (4 + 9 * getD (now (table .entry)) 0 0) (now (out .entry)) r (now (out .exit)) ⌝ }
+    ensures answer { λ r. ⌜ r ≡ transferOf Buffer newBytes (alone (now (table .entry))) (length (now (out .entry))) ⌝ }
+    ensures output { λ r. ⌜ now (out .exit) ≡ outputOf Buffer newBytes (alone (now (table .entry))) (now (out .entry)) ⌝ }
+    ensures decides { λ r. ⌜ Decided (lent Buffer 8 (alone (now (table .entry))) (4 + 9 * getD (now (table .entry)) 0 0) (length (now (out .entry)))) (r .outcome) ⌝ }
+    ensures stores { λ r. ⌜ Stores (NewForm (alone (now (table .entry)) .fields)) (4 + 9 * getD (now (table .entry)) 0 0) (now (out .entry)) r (now (out .exit)) ⌝ }
     ensures moved { λ r. ⌜ MovedOn (now (table .entry)) r (now (out .exit)) ⌝ }
 {
     let reading = oldform::read_alone(table);
-    let tests = reading.outcome;
-    store_new(tests, reading.tasks.fields, out)
+    store_new(reading, out)
 }
 
 // Moves a table of the new form with exactly those fillings back to the old form.
 pub fn to_old(table: &[u8], out: &mut [u8]) -> Transfer
-    ensures answer { λ r. ⌜ r ≡ oldAnswer (now (table .entry)) (length (now (out .entry))) ⌝ }
-    ensures output { λ r. ⌜ now (out .exit) ≡ oldOutput (now (table .entry)) (now (out .entry)) ⌝ }
-    ensures decides { λ r. ⌜ Decides (ValidMoveBack (now (table .entry)) (length (now (out .entry)))) (moveBackConditions (now (table .entry)) (length (now (out .entry)))) (r .outcome) ⌝ }
-    ensures stores { λ r. ⌜ Stores (OldForm (newFields (now (table .entry)))) (2 + 8 * getD (now (table .entry)) 1 0) (now (out .entry)) r (now (out .exit)) ⌝ }
+    ensures answer { λ r. ⌜ r ≡ transferOf Buffer oldBytes (returned (now (table .entry))) (length (now (out .entry))) ⌝ }
+    ensures output { λ r. ⌜ now (out .exit) ≡ outputOf Buffer oldBytes (returned (now (table .entry))) (now (out .entry)) ⌝ }
+    ensures decides { λ r. ⌜ Decided (lent Buffer 8 (returned (now (table .entry))) (2 + 8 * getD (now (table .entry)) 1 0) (length (now (out .entry)))) (r .outcome) ⌝ }
+    ensures stores { λ r. ⌜ Stores (OldForm (new (now (table .entry)) .fields)) (2 + 8 * getD (now (table .entry)) 1 0) (now (out .entry)) r (now (out .exit)) ⌝ }
     ensures moved { λ r. ⌜ MovedBack (now (table .entry)) r (now (out .exit)) ⌝ }
 {
-    let reading = newform::read_new(table);
-    let f = reading.tasks.fields;
-    let read = reading.outcome;
-    let filling = filling_test(f);
-    let tests = refusal::then(read, filling);
-    store_old(tests, f, out)
+    let read = newform::read_new(table);
+    let filling = filling_test(read.tasks.fields);
+    let reading = taskset::also(read, filling);
+    store_old(reading, out)
 }

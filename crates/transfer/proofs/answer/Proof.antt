@@ -1,16 +1,16 @@
 -- The answer is the definition, case by case.
 use Rattle.refusal.specs.Tests.{byOutcome}
-use Rattle.transfer.specs.Lent.{answerBy}
+use Rattle.transfer.specs.Lent.{transferBy}
 use borrow.Author.Needs.{needs}
 use Rattle.transfer.proofs.answer.Statement.{statement}
 use Rattle.transfer.proofs.answer.Tie as tie
 
 returns : tie.Need-returns
-unfolding answerBy byOutcome
+unfolding transferBy byOutcome
 returns c = rw (c .before .outcome .given .1)
 
 returns-2 : tie.Need-returns-2
-unfolding answerBy byOutcome
+unfolding transferBy byOutcome
 returns-2 c = rw (c .enum-told .given .1)
 
 pub answer-spec : {M : Type 1} → statement M

@@ -1,7 +1,7 @@
 -- A search for the first task with another core byte.
 use Prim.Native.Nat.{_-_}
 use Rattle.numbers.proofs.FirstLaws.{Seeking, seek-start, seek-none, looked-on, looked-found}
-use Rattle.transfer.specs.Calls.{otherByte}
+use Rattle.transfer.specs.Tables.{otherByte}
 use borrow.Author.Needs.{needs}
 use Rattle.transfer.proofs.first_other_byte.Statement.{statement}
 use Rattle.transfer.proofs.first_other_byte.Tie as tie

@@ -1,5 +1,5 @@
 -- The test is the definition.
-use Rattle.transfer.specs.Calls.{otherByte}
+use Rattle.transfer.specs.Tables.{otherByte}
 use borrow.Author.Needs.{needs}
 use Rattle.transfer.proofs.is_other_byte.Statement.{statement}
 use Rattle.transfer.proofs.is_other_byte.Tie as tie

@@ -1,0 +1,10 @@
+-- The reading stands where both accept.
+use Rattle.taskset.proofs.ReadingLaws.{by-refused, behind-accepted}
+use borrow.Author.Needs.{needs}
+use Rattle.taskset.proofs.also.Statement.{statement}
+use Rattle.taskset.proofs.also.Tie as tie
+
+pub also-spec : {M : Type 1} → statement M
+also-spec =
+    tie.close (tie.spec (λ c κs. search needs) (λ c. search needs) (λ c κs. search needs) (λ c. search needs) (λ c. search (needs, by-refused))
+    (λ c. search (needs, behind-accepted)))
