@@ -40,17 +40,17 @@ fn read_number() -> Number {
 }
 
 // Sixteen numbers that were read, and whether their block is whole.
-struct Row {
+struct Sixteen {
     whole: bool,
     numbers: [u32; 16],
 }
 
 // Reads sixteen numbers, a block of 64 bytes.
-fn read_row() -> Row {
+fn read_sixteen() -> Sixteen {
     let mut bytes = [0u8; 64];
     let whole = read_exact(&mut bytes);
     let numbers = blocks::numbers_of(&bytes);
-    Row {
+    Sixteen {
         whole: whole,
         numbers: numbers,
     }
@@ -96,7 +96,7 @@ fn run_ticks(core: Core, accepted: bool, count: u32) -> bool {
     let mut present = core;
     let mut left = count;
     while 0 < left {
-        let requests = read_row();
+        let requests = read_sixteen();
         if !requests.whole {
             return false;
         }
@@ -160,7 +160,7 @@ fn run_record() -> bool {
     if !read_exact(&mut record) {
         return false;
     }
-    let requests = read_row();
+    let requests = read_sixteen();
     if !requests.whole {
         return false;
     }
@@ -216,8 +216,8 @@ fn run_writer() -> bool {
     let n = read_number();
     let m = read_number();
     let charge = read_number();
-    let periods = read_row();
-    let budgets = read_row();
+    let periods = read_sixteen();
+    let budgets = read_sixteen();
     let mut affinity = [0u8; 16];
     let last = read_exact(&mut affinity);
     if !(n.whole & m.whole & charge.whole & periods.whole & budgets.whole & last) {

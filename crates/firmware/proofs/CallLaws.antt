@@ -17,12 +17,12 @@ use Rattle.refusal.specs.declared.Outcome.{Outcome}
 use Rattle.refusal.specs.declared.Outcome.the-variants as outcome
 use Rattle.refusal.proofs.CauseLaws.{number-range}
 use Rattle.refusal.proofs.TestLaws.{accepted≢refused, outcome-cases, then-accepted, by-accepted, by-refused}
-use Rattle.refusal.proofs.ConditionLaws.{none-first, first-given, room-tested}
+use Rattle.refusal.proofs.ConditionLaws.{none-first, first-given}
 use Rattle.taskset.specs.Limits.{Checked, Reads}
 use Rattle.taskset.specs.Table.{Table, readingOf, Sound}
 use Rattle.taskset.specs.declared.Fields.{Fields}
 use Rattle.taskset.specs.declared.Reading.{Reading}
-use Rattle.taskset.proofs.TableLaws.{also-sound, table-accepts, table-within, also-read, also-fields}
+use Rattle.taskset.proofs.TableLaws.{lent-sound, table-accepts, table-within, also-read, also-fields}
 use Rattle.newform.specs.Limits.{new}
 use Rattle.newform.proofs.NewLaws.{new-sound}
 use Rattle.plans.proofs.SafeLaws.{demands-long}
@@ -38,7 +38,7 @@ use Rattle.firmware.specs.Service.{Answers, Keeps}
 
 -- The table's numbers, then 8, decide.
 pub buffer-sound : {t : Table} → Sound t → (room : ℕ) → Sound (withBuffer t room)
-buffer-sound {t} s room = also-sound s (room-tested Buffer refl (t .fields .n) room)
+buffer-sound {t} s room = lent-sound s Buffer refl (t .fields .n) room
 
 pub called-sound : (s : List ℕ) (room : ℕ) → Sound (called s room)
 called-sound s room = buffer-sound (new-sound s) room

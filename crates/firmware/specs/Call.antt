@@ -1,12 +1,11 @@
 -- What the firmware entry returns and what it leaves in the plan buffer. Its table is in the new form.
-use Prim.Native.Nat.{ℕ, _+_, _≤_}
-use mathlib.Core.List.{List, [], _∷_, _++_}
+use Prim.Native.Nat.{ℕ, _+_}
+use mathlib.Core.List.{List, _++_}
 use lib.ListN.{take, drop}
 use Rattle.refusal.specs.Causes.{numberOf}
-use Rattle.refusal.specs.Tests.{roomTest, byOutcome}
-use Rattle.refusal.specs.Conditions.{noRoom}
+use Rattle.refusal.specs.Tests.{byOutcome}
 use Rattle.refusal.specs.declared.Cause.the-variants.{Buffer}
-use Rattle.taskset.specs.Table.{Table, also}
+use Rattle.taskset.specs.Table.{Table, lent}
 use Rattle.newform.specs.Limits.{new}
 use Rattle.planner.specs.Plan.{planFor, planOf}
 use Rattle.planner.specs.declared.Verdict.{Verdict}
@@ -14,7 +13,7 @@ use Rattle.planner.specs.declared.Verdict.the-variants.{All, Short, Spent, Refu
 
 -- a table and a lent plan buffer: the table's numbers, then 8, a buffer shorter than n
 abbrev pub withBuffer : Table → ℕ → Table
-withBuffer t room = also t (roomTest Buffer (t .fields .n) room) (t .fields .n ≤ room) (noRoom 8 (t .fields .n) room ∷ [])
+withBuffer t room = lent Buffer 8 t (t .fields .n) room
 
 -- what the entry is given: a table in the new form and a buffer of this length
 abbrev pub called : List ℕ → ℕ → Table

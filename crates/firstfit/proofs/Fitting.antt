@@ -5,7 +5,7 @@ use native.Mathlib.Decide.{ℕ-discrete}
 use native.Mathlib.Numerals.{add-one}
 use native.Mathlib.Omega.{arith}
 use mathlib.Core.Path.{_≡_, refl, sym, ap, _∙_}
-use mathlib.Core.Bool.{cond}
+use mathlib.Core.Bool.{cond, false}
 use mathlib.Core.List.{List, [], _∷_, _++_}
 use mathlib.Core.Logic.{dite}
 use lib.Dec.{eqb}
@@ -23,9 +23,9 @@ use Rattle.allocation.specs.FirstFit.{lowestFit, fitFrom, firstFit}
 use Rattle.allocation.proofs.FirstFit.{next-le}
 use Rattle.branch.specs.Entry.{onCore}
 use Rattle.branch.proofs.OneCore.{row-changed}
-use Rattle.search.specs.Search.{Ranges}
-use Rattle.firstfit.specs.Fitted.{holds, fittedOf}
-use Rattle.firstfit.specs.declared.Fitted.{Fitted}
+use Rattle.search.specs.Search.{Ranges, foundOf}
+use Rattle.search.specs.declared.Found.{Found}
+use Rattle.firstfit.specs.Fit.{holds, fitAnswer}
 
 module _ (row affinity : List ℕ) (n m h : ℕ) where
   abbrev P : Problem
@@ -124,9 +124,10 @@ module _ (row affinity : List ℕ) (n m h : ℕ) where
             changed : (out + cond (eqb core 0) (getD row k 0) 0) ∷ onCore (λ y. y + getD row k 0) loads core ≡ set on core (getD on core 0 + getD row k 0)
             changed = row-changed _+_ add-zero out loads core (getD row k 0)
 
-    pub fit-done : n ≤ k → _≡_ {A = Fitted} (record { placement = placement; rejected = out }) (fittedOf P)
-    unfolding fittedOf fitFrom
+    pub fit-done : n ≤ k → _≡_ {A = Found} (record { placement = placement; rejected = out; steps = n; spent = false }) (foundOf (fitAnswer P))
+    unfolding foundOf fitAnswer fitFrom
     fit-done z =
         let e : n - k ≡ 0 = omega arith in
         let f : s .chosen ≡ firstFit P = rw e at (s .left) in
-        λ i. record { placement = (s .placement-is ∙ ap padded f) i; rejected = (s .loads-are 0 ∙ ap (λ p. rejected P p) f) i }
+        let long : n ≡ length (take n row) = sym (length-take-le n row (omega (arith, s .ranges .few, s .row-long))) in
+        λ i. record { placement = (s .placement-is ∙ ap padded f) i; rejected = (s .loads-are 0 ∙ ap (λ p. rejected P p) f) i; steps = long i; spent = false }

@@ -4,14 +4,9 @@ ghost use Prim.Native.Nat.{_≤_};
 ghost use lib.ListN.{take};
 ghost use Rattle.numbers.specs.First.{first};
 ghost use Rattle.allocation.specs.Placement.{problemOf};
-ghost use Rattle.search.specs.Search.{Ranges};
-ghost use Rattle.firstfit.specs.Fitted.{holds, fittedOf};
-
-// A choice for each task in planning order, entries beyond the tasks 0, and the rejected demand.
-pub struct Fitted {
-    pub placement: [u8; 16],
-    pub rejected: u32,
-}
+ghost use Rattle.search.specs.Search.{Ranges, foundOf};
+ghost use Rattle.firstfit.specs.Fit.{holds, fitAnswer};
+use search::Found;
 
 // The lowest of m cores that a task's core byte permits and that holds its demand d beside its load; 0 if none does.
 fn lowest_core(loads: [u32; 4], byte: u8, d: u32, m: usize, h: u32) -> usize
@@ -28,10 +23,10 @@ fn lowest_core(loads: [u32; 4], byte: u8, d: u32, m: usize, h: u32) -> usize
     0
 }
 
-// First fit of n demands, with their tasks' core bytes, on m cores and the hyperperiod h.
-pub fn first_fit(demands: [u32; 16], affinity: [u8; 16], n: usize, m: usize, h: u32) -> Fitted
+// First fit of n demands, with their tasks' core bytes, on m cores and the hyperperiod h: a step for each task, and none taken back.
+pub fn first_fit(demands: [u32; 16], affinity: [u8; 16], n: usize, m: usize, h: u32) -> Found
     requires { ⌜ Ranges demands n m h ⌝ }
-    ensures { λ r. ⌜ r ≡ fittedOf (problemOf h m (take n demands) (take n affinity)) ⌝ }
+    ensures { λ r. ⌜ r ≡ foundOf (fitAnswer (problemOf h m (take n demands) (take n affinity))) ⌝ }
 {
     let mut placement = [0u8; 16];
     let mut loads = [0u32; 4];
@@ -48,8 +43,10 @@ pub fn first_fit(demands: [u32; 16], affinity: [u8; 16], n: usize, m: usize, h: 
         placement = next;
         k += 1;
     }
-    Fitted {
+    Found {
         placement,
         rejected,
+        steps: n as u32,
+        spent: false,
     }
 }

@@ -1,6 +1,6 @@
 -- What is decoded stands in the bytes where a form has it, and is 0 beyond n.
 use Prim.Native.Nat.{ℕ, _+_, _*_, _≤_, _<_}
-use mathlib.Core.Path.{_≡_, sym, _∙_}
+use mathlib.Core.Path.{_≡_, refl, sym, _∙_}
 use mathlib.Core.List.{List}
 use lib.ListN.{getD}
 use Rattle.numbers.specs.Rows.{row, entry}
@@ -10,17 +10,25 @@ use Rattle.taskset.specs.Table.{Table, readingOf, Sound}
 use Rattle.taskset.specs.declared.Fields.{Fields}
 use Rattle.taskset.specs.declared.Reading.{Reading}
 use Rattle.taskset.proofs.TableLaws.{table-accepts, read-outcome, read-fields}
-use Rattle.form.specs.Layout.{fieldsAt, Bounded, ReadsIn}
+use Rattle.form.specs.Layout.{fieldsAt, StandsAt, Bounded, ReadsIn}
 
 -- entry k of a row that is read from `at` on
 module _ (s : List ℕ) (at n : ℕ) (few : n ≤ 16) (k : ℕ) (h : k < n) where
-  pub word-stands : le32 s (at + 4 * k) ≡ entry (row 0 n (wordAt s at)) k
+  word-stands : le32 s (at + 4 * k) ≡ entry (row 0 n (wordAt s at)) k
   unfolding wordAt
   word-stands = sym (getD-row 0 n (wordAt s at) k h few)
 
   pub byte-stands : entry s (at + k) ≡ entry (row 0 n (byteAt s at)) k
   unfolding byteAt
   byte-stands = sym (getD-row 0 n (byteAt s at) k h few)
+
+pub fields-stand : (s : List ℕ) (at lead charge : ℕ) (affinity : List ℕ) (given : ℕ) → getD s at 0 ≤ 16 → StandsAt at lead (fieldsAt s at lead charge affinity given) s
+fields-stand s at lead charge affinity given few = record {
+  tasks = refl;
+  cores = refl;
+  periods = word-stands s lead (getD s at 0) few;
+  budgets = word-stands s (lead + 4 * getD s at 0) (getD s at 0) few;
+}
 
 pub fields-bounded : (s : List ℕ) (at lead charge : ℕ) (affinity : List ℕ) (given : ℕ) → ((k : ℕ) → getD s at 0 ≤ k → entry affinity k ≡ 0)
     → Bounded (fieldsAt s at lead charge affinity given)

@@ -1,10 +1,10 @@
 -- Where a stored form has the fields of a table, and what is promised of their reading.
-use Prim.Native.Nat.{ℕ, _+_, _*_, _≤_}
+use Prim.Native.Nat.{ℕ, _+_, _*_, _≤_, _<_}
 use mathlib.Core.Path.{_≡_}
 use mathlib.Core.List.{List}
 use lib.ListN.{getD}
 use Rattle.numbers.specs.Rows.{row}
-use Rattle.wire.specs.Bytes.{wordAt}
+use Rattle.wire.specs.Bytes.{le32, wordAt}
 use Rattle.refusal.specs.declared.Outcome.the-variants.{Accepted}
 use Rattle.taskset.specs.Fields.{periodAt, budgetAt, affinityAt}
 use Rattle.taskset.specs.declared.Fields.{Fields}
@@ -23,6 +23,13 @@ fieldsAt s at lead charge affinity given = record {
   affinity = affinity;
   given = given;
 }
+
+-- What stands where: n at one byte and m at the next, the periods and then the budgets behind the leading bytes.
+pub record StandsAt (at lead : ℕ) (f : Fields) (s : List ℕ) : Type 0 where
+  pub tasks : getD s at 0 ≡ f .n
+  pub cores : getD s (at + 1) 0 ≡ f .m
+  pub periods : (k : ℕ) → k < f .n → le32 s (lead + 4 * k) ≡ periodAt f k
+  pub budgets : (k : ℕ) → k < f .n → le32 s (lead + 4 * f .n + 4 * k) ≡ budgetAt f k
 
 -- Rows whose entries beyond n are 0.
 pub record Bounded (f : Fields) : Type 0 where

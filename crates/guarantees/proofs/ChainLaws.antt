@@ -8,16 +8,15 @@ use Rattle.numbers.specs.Rows.{entry}
 use Rattle.numbers.proofs.RowLaws.{length-tab}
 use Rattle.refusal.specs.declared.Outcome.the-variants.{Accepted}
 use Rattle.refusal.proofs.ConditionLaws.{gives-accepted}
-use Rattle.taskset.specs.Demands.{hyperperiodOf, demandOf}
+use Rattle.taskset.specs.Demands.{demandOf}
 use Rattle.taskset.specs.Table.{Table, Sound}
 use Rattle.planning.specs.Problem.{tableProblem}
 use Rattle.plans.specs.Safe.{Safe}
 use Rattle.quick.proofs.PromiseLaws.{quick-decided, quick-fits}
 use Rattle.edf.specs.Guarantee.{periodStart, receivedIn, owedIn}
 use Rattle.start.specs.Starts.{startOf}
-use Rattle.guarantees.specs.Demands.{ValidPlacement, exactLoad, QuickDemand}
+use Rattle.guarantees.specs.Demands.{ValidPlacement, QuickDemand}
 use Rattle.guarantees.specs.Chain.{Plan, exactly, quickly, rowOf, placementOf, leftOutOf, tasksOf, answersOf, Chain}
-use Rattle.guarantees.proofs.LoadLaws.{planned-load}
 use Rattle.guarantees.proofs.DemandLaws.{demand-two, demand-three}
 
 -- what both planners promise
@@ -45,12 +44,8 @@ module _ {t : Table} (s : Sound t) (plan : Plan) (v : t .Valid) where
     permits = λ k h i. rw (taken k h) (promise .permitted k h (rw (taken k h) at i));
   }
 
-  load-fits : (core : ℕ) → 1 ≤ core → core ≤ t .fields .m → exactLoad (t .fields) (placementOf t plan) core ≤ hyperperiodOf (t .fields)
-  unfolding tableProblem
-  load-fits core least most = rw (← planned-load (t .fields) (placementOf t plan) core long) (promise .loads core least most)
-
   starts-each : (core : ℕ) → 1 ≤ core → core ≤ t .fields .m → startOf t (placementOf t plan) core .outcome ≡ Accepted
-  starts-each core least most = gives-accepted _ (demand-three s .accepted (placementOf t plan) core v valid-placement least most .1 (load-fits core least most))
+  starts-each core least most = gives-accepted _ (demand-three s .accepted (placementOf t plan) core v valid-placement least most .1 (promise .loads core least most))
 
   served-each : (ticks : List (List ℕ)) (k p : ℕ) → k < t .fields .n → 1 ≤ entry (placementOf t plan) k
       → periodStart (tasksOf t plan) k (p + 1) ≤ length ticks → receivedIn (tasksOf t plan) (answersOf t plan k ticks) k p ≡ owedIn (tasksOf t plan) ticks k p
@@ -58,18 +53,14 @@ module _ {t : Table} (s : Sound t) (plan : Plan) (v : t .Valid) where
       demand-three s .ticks (placementOf t plan) (entry (placementOf t plan) k) (starts-each (entry (placementOf t plan) k) on (valid-placement .entries k below)) ticks
       .complete k p below refl enough
 
-  left-out-is : leftOutOf t plan ≡ exactLoad (t .fields) (placementOf t plan) 0
-  unfolding tableProblem
-  left-out-is = promise .rejects ∙ planned-load (t .fields) (placementOf t plan) 0 long
-
 pub chain : {t : Table} → Sound t → Chain t
-chain s = record { starts = λ plan core v. starts-each s plan v core; served = served-each s; left-out = left-out-is s }
+chain s = record { starts = λ plan core v. starts-each s plan v core; served = served-each s; left-out = λ plan v. safe s plan v .rejects }
 
 pub quick-demand : {t : Table} → Sound t → QuickDemand t
 quick-demand s =
     let fits = quick-fits s refl in
     record {
-      safe = λ v core least most. load-fits s quickly v core least most;
+      safe = λ v core least most. fits .safe v .loads core least most;
       placed = fits .safe;
       lowest = fits .lowest;
       exact = λ v. fits .exact (quick-decided s refl .accepted .1 v .0);

@@ -5,25 +5,34 @@ use mathlib.Core.List.{List}
 use mathlib.Core.Logic.{_↔_}
 use lib.ListN.{length}
 use Rattle.refusal.specs.Conditions.{Gives}
-use Rattle.taskset.specs.Demands.{hyperperiodOf}
-use Rattle.taskset.specs.Reading.{taskSetOf}
+use Rattle.taskset.specs.Demands.{hyperperiodOf, loadOn}
 use Rattle.taskset.specs.Table.{Table, Sound}
 use Rattle.taskset.proofs.DemandLaws.{demand-exact}
-use Rattle.taskset.proofs.TableLaws.{read-decided, read-reads}
-use Rattle.oldform.proofs.OldLaws.{beside-sound, alone-sound}
+use Rattle.taskset.proofs.TableLaws.{bare-sound, read-decided, read-reads}
+use Rattle.oldform.proofs.OldLaws.{beside-sound, alone-sound, beside-stored, alone-stored}
 use Rattle.newform.proofs.NewLaws.{new-sound, new-stored}
+use Rattle.transfer.proofs.CallLaws.{written-sound, returned-sound}
 use Rattle.planner.proofs.PromiseLaws.{plan-decided, plan-promised}
 use Rattle.quick.proofs.PromiseLaws.{quick-decided, quick-fits}
 use Rattle.ceiling.proofs.PromiseLaws.{ceiling-decided, ceiling-promise, few-unspent}
 use Rattle.firmware.proofs.CallLaws.{buffer-sound, call-answers}
 use Rattle.runner.proofs.AnswerLaws.{answer-decides, answer-refused}
-use Rattle.start.specs.Starts.{startOf, loadOf}
+use Rattle.start.specs.Starts.{startOf}
 use Rattle.start.proofs.StartLaws.{start-decided, start-promised}
-use Rattle.guarantees.specs.Demands.{SoundForms, DemandOne, TickDemand, DemandTwo, CeilingDemand, DemandThree, ValidPlacement, exactLoad}
-use Rattle.guarantees.proofs.LoadLaws.{started-load}
+use Rattle.guarantees.specs.Demands.{SoundForms, DemandOne, TickDemand, DemandTwo, CeilingDemand, DemandThree, ValidPlacement}
 
 pub sound-forms : SoundForms
-sound-forms = record { besides = beside-sound; alones = alone-sound; news = new-sound; stored = λ table. new-stored table refl }
+sound-forms = record {
+  besides = beside-sound;
+  alones = alone-sound;
+  news = new-sound;
+  returneds = returned-sound;
+  bares = bare-sound;
+  writtens = written-sound;
+  beside-stored = λ table charge affinity. beside-stored table charge affinity refl;
+  alone-stored = λ table. alone-stored table refl;
+  new-stored = λ table. new-stored table refl;
+}
 
 pub tick-demand : TickDemand
 tick-demand = record { tick = answer-decides; ticks = answer-refused }
@@ -59,18 +68,14 @@ module _ {t : Table} (s : Sound t) where
 
   -- a core of a valid table and placement is accepted exactly if its load fits
   starts-exactly : (placement : List ℕ) (core : ℕ) → t .Valid → ValidPlacement (t .fields) placement → 1 ≤ core → core ≤ t .fields .m
-      → Gives (startOf t placement core .outcome) 0 0 ↔ (exactLoad (t .fields) placement core ≤ hyperperiodOf (t .fields))
-  unfolding taskSetOf
+      → Gives (startOf t placement core .outcome) 0 0 ↔ (loadOn (t .fields) placement core ≤ hyperperiodOf (t .fields))
   starts-exactly placement core v p least most = (
-    λ e. rw (← same) (start-decided s placement core refl .accepted .0 e .1 .fits),
+    λ e. start-decided s placement core refl .accepted .0 e .1 .fits,
     λ h. start-decided s placement core refl .accepted .1 (
       v,
-      record { exact = p .exact; entries = p .entries; permitted = p .permits; number = (least, most); fits = rw same h },
+      record { exact = p .exact; entries = p .entries; permitted = p .permits; number = (least, most); fits = h },
     ),
   )
-    where
-      same : loadOf (taskSetOf (t .fields)) placement core ≡ exactLoad (t .fields) placement core
-      same = started-load (t .fields) placement core (p .exact) (s .within v .sizes .tasks .1)
 
   pub demand-three : DemandThree t
   demand-three = record {

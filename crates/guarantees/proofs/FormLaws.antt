@@ -7,8 +7,8 @@ use lib.Seq.{getD-take}
 use Rattle.numbers.proofs.RowLaws.{row-cong}
 use Rattle.wire.specs.Bytes.{wordAt}
 use Rattle.wire.proofs.WriteBackLaws.{front-long}
+use Rattle.refusal.specs.declared.Cause.the-variants.{Buffer}
 use Rattle.refusal.specs.declared.Outcome.the-variants.{Accepted}
-use Rattle.refusal.proofs.ConditionLaws.{accepts}
 use Rattle.taskset.specs.Fields.{periodAt, budgetAt, cut}
 use Rattle.taskset.specs.Reading.{acceptedReading}
 use Rattle.taskset.specs.Limits.{Within}
@@ -24,7 +24,7 @@ use Rattle.newform.specs.Form.{newFields}
 use Rattle.newform.specs.Limits.{new}
 use Rattle.newform.proofs.BackLaws.{cut-read}
 use Rattle.newform.proofs.NewLaws.{new-sound}
-use Rattle.transfer.proofs.CallLaws.{write-decides, write-stores, write-back, write-unread, read-written, new-decides, new-stores, new-moved, old-decides, old-stores, old-moved}
+use Rattle.transfer.proofs.CallLaws.{Storable, call-valid, call-decides, call-stores, writing, moving, returning, write-back, write-unread, read-written, moved-on, moved-back}
 use Rattle.planner.specs.Plan.{planFor, refusedPlan, planBy, planOf, verdictOutcome}
 use Rattle.planner.proofs.PlanLaws.{plan-accepted-is}
 use Rattle.quick.specs.Quick.{quickFor, refusedQuick, quickBy, quickOf}
@@ -34,7 +34,7 @@ use Rattle.report.specs.Output.{planLines, outputOf}
 use Rattle.quickreport.specs.Output.{quickLines, quickOutputOf}
 use Rattle.firmware.specs.Call.{called, codeOf, codeFor, bufferAfter}
 use Rattle.firmware.proofs.CallLaws.{called-sound, code-accepted-is, buffer-accepted-is}
-use Rattle.guarantees.specs.Forms.{newIn, besideOf, MovesOn, Forms, AnsweredAlike}
+use Rattle.guarantees.specs.Forms.{newIn, besideOf, MovesOn, StoresIn, Forms, AnsweredAlike}
 
 -- ---- tables that read alike
 
@@ -66,11 +66,10 @@ answered-alike t u e = record { plans = plans-same t u e; quick = quick-same t u
 
 module _ (s out : List ℕ) (moved : MovesOn s out) where
   reads-alike : readingOf (new (newIn s out)) ≡ readingOf (alone s)
-  reads-alike = new-moved s out refl refl (moved .bytes) .reads (moved .accepted)
+  reads-alike = moved-on s out refl refl (moved .small) .reads (moved .accepted)
 
   valid : alone s .Valid
-  unfolding alone
-  valid = accepts (new-decides s out refl refl) .0 (moved .accepted) .0
+  valid = call-valid Buffer refl (moving s) out refl refl (moved .accepted)
 
   well : readingOf (alone s) .outcome ≡ Accepted
   well = read-outcome (alone s) refl ∙ table-accepts (alone-sound s) .1 valid
@@ -128,26 +127,30 @@ module _ (s : List ℕ) (v : new s .Valid) where
 
   valid-beside : besideOf s .Valid
   unfolding beside new oldBytes
-  valid-beside = record { exact = old-long (newFields s) (v .fields); fields = rw fields-beside (v .fields) }
+  valid-beside = record {
+    exact = old-long (newFields s) (v .fields);
+    row = front-long (newFields s .affinity) (affinity-there (newFields s) (v .fields));
+    fields = rw fields-beside (v .fields);
+  }
 
   reads-beside : readingOf (besideOf s) ≡ readingOf (new s)
   reads-beside = valid-reading (beside-sound _ _ _) valid-beside ∙ ap acceptedReading fields-beside ∙ sym (valid-reading (new-sound s) v)
 
+stores-in : {bytes : Fields → List ℕ} {Form : List ℕ → Type 0} {size : ℕ} {t : Table} → Storable bytes Form size t → StoresIn bytes Form size t
+stores-in s = record { decides = λ out. call-decides Buffer refl s out refl refl; stores = λ out. call-stores Buffer refl s out refl refl }
+
 pub forms : Forms
 forms = record {
-  writes = λ f out. write-decides f out refl refl;
-  moves-on = λ s out. new-decides s out refl refl;
-  moves-back = λ s out. old-decides s out refl refl;
-  written = λ f out. write-stores f out refl refl;
-  moved-on = λ s out. new-stores s out refl refl;
-  moved-back = λ s out. old-stores s out refl refl;
+  writes = λ f. stores-in (writing f);
+  moves-on = λ s. stores-in (moving s);
+  moves-back = λ s. stores-in (returning s);
   read-back = λ f out. write-back f out refl refl;
   write-back = read-written;
   unread = λ f g a out. write-unread f out refl refl g a;
-  there-and-back = λ s out m. new-moved s out refl refl (m .bytes) .returns (m .accepted);
-  back-and-there = λ s out m. old-moved s out refl refl (m .bytes) .returns (m .accepted);
+  there-and-back = λ s out m. moved-on s out refl refl (m .small) .returns (m .accepted);
+  back-and-there = λ s out m. moved-back s out refl refl (m .small) .returns (m .accepted);
   reads-alike = reads-alike;
-  reads-alike-back = λ s out m. old-moved s out refl refl (m .bytes) .reads (m .accepted);
+  reads-alike-back = λ s out m. moved-back s out refl refl (m .small) .reads (m .accepted);
   code-alike = code-alike;
   buffer-alike = buffer-alike;
   valid-beside = valid-beside;

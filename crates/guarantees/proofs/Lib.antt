@@ -1,4 +1,3 @@
-pub mod LoadLaws
 pub mod DemandLaws
 pub mod ChainLaws
 pub mod UnchargedLaws

@@ -12,18 +12,17 @@ use Rattle.numbers.specs.Sums.{sumOver, sumTo, productTo}
 use Rattle.affinity.specs.Permitted.{permitted, allowed, permittedCount, lowestPermitted, unfit, everyCore}
 use Rattle.refusal.specs.Tests.{_then_, refuseIf, refuseAt, inOrder, byOutcome}
 use Rattle.wire.specs.Bytes.{wordAt, byteAt}
-use Rattle.taskset.specs.Demands.{multipleTo, hyperperiodOf, demandOf}
+use Rattle.taskset.specs.Demands.{multipleTo, hyperperiodOf, demandOf, loadOn}
 use Rattle.taskset.specs.Tests.{badPeriod, badBudget, badCost, badAffinity, exceeds, fieldsOutcome}
 use Rattle.taskset.specs.Reading.{taskSetOf, noTasks, refusedReading, acceptedReading, readingBy}
 use Rattle.oldform.specs.Form.{besideFields, everyAffinity, oldBytes}
 use Rattle.taskset.specs.Table.{readingOf}
-use Rattle.oldform.specs.Tests.{shapeOutcome, besideOutcome}
-use Rattle.oldform.specs.Limits.{beside}
+use Rattle.form.specs.Shape.{shapeOutcome, formOutcome}
+use Rattle.oldform.specs.Limits.{oldOutcome, beside, alone}
 use Rattle.newform.specs.Form.{newFields, newBytes}
-use Rattle.newform.specs.Tests.{shapeOutcome as newShape, newOutcome}
-use Rattle.newform.specs.Limits.{new}
-use Rattle.transfer.specs.Lent.{answerBy, outputBy, answerOf, outputOf as outputAfter}
-use Rattle.transfer.specs.Calls.{writeAnswer, writeOutput, newAnswer, newOutput, otherByte, backOutcome, oldAnswer, oldOutput}
+use Rattle.newform.specs.Limits.{newOutcome, new}
+use Rattle.transfer.specs.Lent.{transferBy, exitBy, transferAfter, exitAfter}
+use Rattle.transfer.specs.Tables.{written, otherByte, returned}
 use Rattle.planning.specs.Order.{precedes}
 use Rattle.allocation.specs.Rule.{twins, isEmpty, someEmptyTwin, tried}
 use Rattle.allocation.specs.Walk.{upFrom, choices, stepInto, storedAfter, boundAfter, entered, tryAll, visit, trace, stored, answer}
@@ -36,7 +35,7 @@ use Rattle.ceiling.specs.Ceiling.{someTied, factorFor, sumOfProducts, stepCeili
 use Rattle.edf.specs.Slots.{slotTest, firstSlot}
 use Rattle.edf.specs.Tick.{owedFor, release, releaseAll, chosen, advanceAll, stepped, refusedTick, tick}
 use Rattle.edf.specs.Fresh.{freshSlot, freshSlots}
-use Rattle.start.specs.Starts.{loadOf, aboveAt, barredAt, refusedStart, startFor, startBy, placingOutcome, startOf}
+use Rattle.start.specs.Starts.{aboveAt, barredAt, refusedStart, startFor, startBy, placingOutcome, startOf}
 use Rattle.text.specs.Decimal.{front, digitsBy, decimal, field}
 use Rattle.listing.specs.Lines.{refusalLine, sizesLine, taskLine, taskLines, tableLines}
 use Rattle.listing.specs.Printed.{printed}
@@ -46,7 +45,7 @@ use Rattle.guarantees.specs.Rows.{moves, newTables, ties, charges, empty
 
 -- every definition that a row computes by, under one name
 unfoldable opened : ℕ
-unfolding byOutcome beside new shapeOutcome newShape startFor ceilingFor refusedCeiling first firstFrom row tab upTo sumOver sumTo productTo euclid gcd lcm lcms insert sorted position scatter demandOn _then_ refuseIf refuseAt inOrder wordAt byteAt oldBytes newBytes fieldsOutcome answerBy outputBy answerOf outputAfter writeAnswer writeOutput newAnswer newOutput otherByte backOutcome oldAnswer oldOutput besideFields newFields newOutcome lowestPermitted noTasks refusedReading multipleTo hyperperiodOf demandOf badPeriod badBudget badCost exceeds besideOutcome taskSetOf acceptedReading readingBy readingOf precedes twins isEmpty someEmptyTwin tried xor permitted permittedCount allowed unfit everyCore everyAffinity badAffinity barredAt someTied factorFor sumOfProducts upFrom choices stepInto storedAfter boundAfter entered tryAll visit trace stored answer tableAnswer tableProblem orderOf verdictOf allocationOf planFor refusedPlan planBy planOf verdictOutcome slotTest firstSlot owedFor release releaseAll chosen advanceAll stepped refusedTick tick freshSlot freshSlots loadOf aboveAt refusedStart startBy placingOutcome startOf front digitsBy decimal field refusalLine sizesLine taskLine taskLines tableLines verdictWord summaryLine planLines printed outputOf lowestFit fitFrom firstFit tableFit quickPlacement quickFor refusedQuick quickBy quickOf stepCeiling ceilingBy ceilingOf quickSummary quickLines quickOutputOf
+unfolding byOutcome beside new shapeOutcome startFor ceilingFor refusedCeiling first firstFrom row tab upTo sumOver sumTo productTo euclid gcd lcm lcms insert sorted position scatter demandOn _then_ refuseIf refuseAt inOrder wordAt byteAt oldBytes newBytes fieldsOutcome otherByte besideFields newFields newOutcome lowestPermitted noTasks refusedReading multipleTo hyperperiodOf demandOf badPeriod badBudget badCost exceeds taskSetOf acceptedReading readingBy readingOf precedes twins isEmpty someEmptyTwin tried xor permitted permittedCount allowed unfit everyCore everyAffinity badAffinity barredAt someTied factorFor sumOfProducts upFrom choices stepInto storedAfter boundAfter entered tryAll visit trace stored answer tableAnswer tableProblem orderOf verdictOf allocationOf planFor refusedPlan planBy planOf verdictOutcome slotTest firstSlot owedFor release releaseAll chosen advanceAll stepped refusedTick tick freshSlot freshSlots aboveAt refusedStart startBy placingOutcome startOf front digitsBy decimal field refusalLine sizesLine taskLine taskLines tableLines verdictWord summaryLine planLines printed outputOf lowestFit fitFrom firstFit tableFit quickPlacement quickFor refusedQuick quickBy quickOf stepCeiling ceilingBy ceilingOf quickSummary quickLines quickOutputOf formOutcome oldOutcome alone transferBy exitBy transferAfter exitAfter written returned loadOn
 opened = 0
 
 base-hold : AllHold rows

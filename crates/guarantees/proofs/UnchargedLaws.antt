@@ -5,7 +5,6 @@ use Rattle.affinity.proofs.PermittedLaws.{every-permits}
 use Rattle.taskset.specs.Fields.{periodAt, Free}
 use Rattle.taskset.specs.Demands.{hyperperiodOf, demandOf}
 use Rattle.taskset.specs.Limits.{Sized}
-use Rattle.taskset.specs.Reading.{taskSetOf}
 use Rattle.taskset.specs.Table.{Table, Sound}
 use Rattle.taskset.specs.declared.Fields.{Fields}
 use Rattle.taskset.proofs.LimitLaws.{cost-uncharged, charge-uncharged, costs-uncharged, row-every, affinity-every}
@@ -38,14 +37,13 @@ all-permitted : (f : Fields) → Sized f → Every f → Free f
 all-permitted f z e k h core i l = rw (e .bytes k h) (every-permits (f .m) (z .cores .1) core i l)
 
 pub untied : Untied
-unfolding taskSetOf
 untied = record {
   choices = all-permitted;
   twins = λ f w e c d i l j h.
       let free = all-permitted f (w .sizes) e in
       walk-rule f w .twins c d .1 (λ k b. free k b c i l ∙ sym (free k b d j h));
-  fifteen = λ f z e. (row-every f (e .listed), affinity-every f z (e .bytes));
-  sixteen = λ f placement z e. barred-every (taskSetOf f) placement (z .cores .1) (e .bytes);
+  fifteen = λ f z e. (row-every f (e .counted), affinity-every f z (e .bytes));
+  sixteen = λ f placement z e. barred-every f placement (z .cores .1) (e .bytes);
 }
 
 pub untied-ceiling : {t : Table} → Sound t → UntiedCeiling t
@@ -59,6 +57,6 @@ alone-is = record {
   fields = λ table. refl;
   outcome = λ table. refl;
   uncharged = λ table. refl;
-  every = λ table charge z. record { listed = every-counted table charge; bytes = every-affinity table charge (z .tasks .1) };
+  every = λ table charge z. record { counted = every-counted table charge; bytes = every-affinity table charge (z .tasks .1) };
   fresh = start-alone;
 }

@@ -5,6 +5,7 @@ use mathlib.Core.List.{List}
 use lib.ListN.{length}
 use Rattle.numbers.specs.Rows.{entry}
 use Rattle.refusal.specs.declared.Outcome.the-variants.{Accepted}
+use Rattle.taskset.specs.Demands.{loadOn}
 use Rattle.taskset.specs.Table.{Table}
 use Rattle.plans.specs.Safe.{choicesOf}
 use Rattle.planner.specs.Plan.{planOf}
@@ -14,7 +15,6 @@ use Rattle.edf.specs.Tick.{TickAnswer, ticked}
 use Rattle.edf.specs.Guarantee.{periodStart, receivedIn, owedIn}
 use Rattle.runner.specs.declared.Core.{Core}
 use Rattle.start.specs.Starts.{placedTasks, startOf}
-use Rattle.guarantees.specs.Demands.{exactLoad}
 
 -- a plan: the exact planner's within a step limit, or the quick one
 pub data Plan : Type 0 where
@@ -54,4 +54,4 @@ pub record Chain (t : Table) : Type 0 where
   pub served : (plan : Plan) → t .Valid → (ticks : List (List ℕ)) (k p : ℕ) → k < t .fields .n → 1 ≤ entry (placementOf t plan) k
       → periodStart (tasksOf t plan) k (p + 1) ≤ length ticks → receivedIn (tasksOf t plan) (answersOf t plan k ticks) k p ≡ owedIn (tasksOf t plan) ticks k p
   -- and the answer says exactly which tasks are left out: the left-out demand is that of the tasks whose entry is 0.
-  pub left-out : (plan : Plan) → t .Valid → leftOutOf t plan ≡ exactLoad (t .fields) (placementOf t plan) 0
+  pub left-out : (plan : Plan) → t .Valid → leftOutOf t plan ≡ loadOn (t .fields) (placementOf t plan) 0

@@ -2,26 +2,27 @@
 -- every sound table, and tables in either stored form are sound (`SoundForms`). A promise that stands below is cited, not told again.
 use Prim.Native.Nat.{ℕ, _+_, _*_, _/_, _≤_, _<_, min}
 use mathlib.Core.Path.{_≡_}
-use mathlib.Core.Bool.{true, cond}
+use mathlib.Core.Bool.{true}
 use mathlib.Core.List.{List, _++_}
 use mathlib.Core.Logic.{_↔_, _≢_}
-use lib.Dec.{eqb}
 use lib.ListN.{length}
 use Rattle.numbers.specs.Rows.{entry}
-use Rattle.numbers.specs.Sums.{sumTo, sumFromOne, productFromOne}
+use Rattle.numbers.specs.Sums.{sumFromOne, productFromOne}
 use Rattle.affinity.specs.Permitted.{permitted, everyCore}
 use Rattle.refusal.specs.Causes.{numberIn}
 use Rattle.refusal.specs.Conditions.{First, Fails, Gives, Decides}
 use Rattle.refusal.specs.declared.Outcome.the-variants.{Accepted}
 use Rattle.taskset.specs.Fields.{periodAt, budgetAt, costAt, affinityAt, Free}
-use Rattle.taskset.specs.Demands.{hyperperiodOf, demandOf}
-use Rattle.taskset.specs.Reading.{taskSetOf}
+use Rattle.taskset.specs.Demands.{hyperperiodOf, demandOf, loadOn}
 use Rattle.taskset.specs.Limits.{Sized, Within, chargeAbove, budgetOutside, costAbove, rowOther, affinityUnfit, Reads}
-use Rattle.taskset.specs.Table.{Table, readingOf, Decided, Sound}
+use Rattle.taskset.specs.Table.{Table, bare, readingOf, Decided, Sound}
 use Rattle.taskset.specs.declared.Fields.{Fields}
-use Rattle.oldform.specs.Form.{everyAffinity}
+use Rattle.form.specs.Layout.{ReadsIn}
+use Rattle.oldform.specs.Form.{everyAffinity, FormBeside}
 use Rattle.oldform.specs.Limits.{beside, alone}
-use Rattle.newform.specs.Limits.{new, ReadsNew}
+use Rattle.newform.specs.Form.{NewForm}
+use Rattle.newform.specs.Limits.{new}
+use Rattle.transfer.specs.Tables.{written, returned}
 use Rattle.allocation.specs.EntryRule.{Twins}
 use Rattle.allocation.specs.TableOrder.{inPlanningOrder}
 use Rattle.planning.specs.Problem.{tableProblem, orderOf}
@@ -46,14 +47,19 @@ use Rattle.runner.specs.Plain.{PlainRefusal}
 use Rattle.start.specs.Starts.{placedTasks, startOf}
 use Rattle.start.specs.Limits.{coreAbove, coreBarred, placingAlone, placed, Starts}
 
--- What a call can be given: a stored table with any charge and core bytes beside it, one by itself, and one in the new form. Its tests are those of
--- its limits, and its conditions those of the paper's table.
+-- What a call can be given: a stored table with any charge and core bytes beside it, one by itself, one in the new form, one that is to be moved back,
+-- fields that stand in no bytes, and fields that are to be written. Its tests are those of its limits, and its conditions those of the paper's table.
 pub record SoundForms : Type 0 where
   pub besides : (table : List ℕ) (charge : ℕ) (affinity : List ℕ) → Sound (beside table charge affinity)
   pub alones : (table : List ℕ) → Sound (alone table)
   pub news : (table : List ℕ) → Sound (new table)
-  -- What the reader of the new form accepts stands in the bytes, each part at its place, and is 0 beyond n.
-  pub stored : (table : List ℕ) → ReadsNew table (readingOf (new table))
+  pub returneds : (table : List ℕ) → Sound (returned table)
+  pub bares : (fields : Fields) → Sound (bare fields)
+  pub writtens : (fields : Fields) → Sound (written fields)
+  -- What a reader accepts stands in the bytes, each part at its place, and is 0 beyond n; charge and core bytes beside the old form are those given.
+  pub beside-stored : (table : List ℕ) (charge : ℕ) (affinity : List ℕ) → ReadsIn (FormBeside charge affinity) table (readingOf (beside table charge affinity))
+  pub alone-stored : (table : List ℕ) → ReadsIn (FormBeside 0 (everyAffinity table)) table (readingOf (alone table))
+  pub new-stored : (table : List ℕ) → ReadsIn NewForm table (readingOf (new table))
 
 -- Demand 1. The first two sentences are of the planner; the second is said of every other call as well.
 pub record DemandOne (t : Table) : Type 0 where
@@ -88,14 +94,10 @@ pub record TickDemand : Type 0 where
 abbrev pub DemandTwo : Table → Type 0
 DemandTwo t = (limit : ℕ) → t .Valid → Promise (t .fields) limit (planOf t limit)
 
--- the exact load that a placement puts on a core: the sum of the demands of the tasks whose entry is that core
-abbrev pub exactLoad : Fields → List ℕ → ℕ → ℕ
-exactLoad f placement core = sumTo (λ k. cond (eqb (entry placement k) core) (demandOf f k) 0) (f .n)
-
 -- The quick plan. Of demand 2 the first sentence binds it; the rest says what it is, and how it stands to the exact plan.
 pub record QuickDemand (t : Table) : Type 0 where
   -- No plan puts an exact load above one on any core; each task has a core of the table, or is left out.
-  pub safe : t .Valid → (core : ℕ) → 1 ≤ core → core ≤ t .fields .m → exactLoad (t .fields) (choicesOf (t .fields) (quickOf t .placement)) core ≤ hyperperiodOf (t .fields)
+  pub safe : t .Valid → (core : ℕ) → 1 ≤ core → core ≤ t .fields .m → loadOn (t .fields) (choicesOf (t .fields) (quickOf t .placement)) core ≤ hyperperiodOf (t .fields)
   pub placed : t .Valid → Safe (t .fields) (quickOf t .placement) (quickOf t .rejected)
   -- Each task, in the planning order, is on the lowest permitted core where it fits, or left out.
   pub lowest : t .Valid → Lowest (t .fields) (quickOf t)
@@ -132,7 +134,7 @@ pub record ValidPlacement (f : Fields) (placement : List ℕ) : Type 0 where
 pub record DemandThree (t : Table) : Type 0 where
   -- With a valid table and placement, a core of that table is accepted exactly when its exact load is at most one.
   pub accepted : (placement : List ℕ) (core : ℕ) → t .Valid → ValidPlacement (t .fields) placement → 1 ≤ core → core ≤ t .fields .m
-      → Gives (startOf t placement core .outcome) 0 0 ↔ (exactLoad (t .fields) placement core ≤ hyperperiodOf (t .fields))
+      → Gives (startOf t placement core .outcome) 0 0 ↔ (loadOn (t .fields) placement core ≤ hyperperiodOf (t .fields))
   -- The load is exact, and counts the charge: a demand times its period is the budget plus the charge, times the hyperperiod.
   pub exact : t .Valid → (k : ℕ) → k < t .fields .n
       → demandOf (t .fields) k * periodAt (t .fields) k ≡ (budgetAt (t .fields) k + t .fields .charge) * hyperperiodOf (t .fields)
@@ -155,7 +157,7 @@ pub record Uncharged : Type 0 where
 
 -- Each task has the byte of every core of the table.
 pub record Every (f : Fields) : Type 0 where
-  pub listed : f .given ≡ f .n
+  pub counted : f .given ≡ f .n
   pub bytes : (k : ℕ) → k < f .n → affinityAt f k ≡ everyCore (f .m)
 
 -- A board on which each task may use every core: the core bytes forbid nothing, and what is said above is as without them. The sizes are right.
@@ -166,7 +168,7 @@ pub record Untied : Type 0 where
   pub twins : (f : Fields) → Within f → Every f → (c d : ℕ) → 1 ≤ c → c ≤ f .m → 1 ≤ d → d ≤ f .m → Twins (inPlanningOrder (tableProblem f) (orderOf f)) c d
   -- Number 15 never holds, and 16 only where 9 does, which is tested before it.
   pub fifteen : (f : Fields) → Sized f → Every f → Fails (rowOther f) × Fails (affinityUnfit f)
-  pub sixteen : (f : Fields) (placement : List ℕ) → Sized f → Every f → Fails (coreAbove (taskSetOf f) placement) → Fails (coreBarred (taskSetOf f) placement)
+  pub sixteen : (f : Fields) (placement : List ℕ) → Sized f → Every f → Fails (coreAbove f placement) → Fails (coreBarred f placement)
 
 -- The factor for j of the step ceiling is then the smaller of j and m, plus 1.
 abbrev pub UntiedCeiling : Table → Type 0
@@ -181,5 +183,5 @@ pub record Alone : Type 0 where
   pub every : (table : List ℕ) (charge : ℕ) → Sized (beside table charge (everyAffinity table) .fields) → Every (beside table charge (everyAffinity table) .fields)
   -- A placement is refused with 9, 10 and 11.
   pub fresh : (table placement : List ℕ) (core : ℕ)
-      → Decides (placed (alone table) placement core .Valid) (alone table .conditions ++ placingAlone (taskSetOf (alone table .fields)) placement core)
+      → Decides (placed (alone table) placement core .Valid) (alone table .conditions ++ placingAlone (alone table .fields) placement core)
       (startOf (alone table) placement core .outcome)

@@ -2,21 +2,20 @@
 use Prim.Native.Nat.{ℕ, _+_, _*_, _≤_}
 use mathlib.Core.Path.{_≡_}
 use mathlib.Core.List.{List, _++_}
-use lib.ListN.{length, take, drop}
+use lib.ListN.{length, getD, take, drop}
 use Rattle.wire.specs.Bytes.{Bytes}
-use Rattle.refusal.specs.Conditions.{Decides}
+use Rattle.refusal.specs.declared.Cause.the-variants.{Buffer}
 use Rattle.refusal.specs.declared.Outcome.the-variants.{Accepted}
 use Rattle.taskset.specs.Fields.{cut, Alike}
 use Rattle.taskset.specs.Reading.{acceptedReading}
 use Rattle.taskset.specs.declared.Fields.{Fields}
-use Rattle.taskset.specs.Table.{Table, readingOf}
-use Rattle.oldform.specs.Form.{aloneFields, oldBytes, taskCount, OldForm}
+use Rattle.taskset.specs.Table.{Table, lent, readingOf, Decided}
+use Rattle.oldform.specs.Form.{oldBytes, OldForm}
 use Rattle.oldform.specs.Limits.{beside, alone}
-use Rattle.newform.specs.Form as newform
-use Rattle.newform.specs.Form.{newFields, NewForm}
-use Rattle.newform.specs.Limits.{ValidNew, new}
-use Rattle.transfer.specs.Calls.{writeAnswer, writeOutput, newAnswer, newOutput, oldAnswer, oldOutput}
-use Rattle.transfer.specs.Limits.{ValidWrite, writeConditions, ValidMoveOn, moveOnConditions, ValidMoveBack, moveBackConditions}
+use Rattle.newform.specs.Form.{newBytes, NewForm}
+use Rattle.newform.specs.Limits.{new}
+use Rattle.transfer.specs.Lent.{transferOf, exitOf}
+use Rattle.transfer.specs.Tables.{written, returned}
 use Rattle.transfer.specs.Promise.{Stores, storedIn, Yields}
 use Rattle.planner.specs.Plan.{planOf}
 use Rattle.quick.specs.Quick.{quickOf}
@@ -25,47 +24,59 @@ use Rattle.report.specs.Output.{outputOf}
 use Rattle.quickreport.specs.Output.{quickOutputOf}
 use Rattle.firmware.specs.Call.{called, codeOf, codeFor, bufferAfter}
 
--- the table that an accepted call left in front of an output: the writer, the move to the new form, the move back
+-- the table that an accepted call, which stores a table's fields as these bytes, left in front of an output
+abbrev pub storedOf : (Fields → List ℕ) → Table → List ℕ → List ℕ
+storedOf bytes t out = storedIn (transferOf Buffer bytes t (length out)) (exitOf Buffer bytes t out)
+
+-- the writer's, the move's to the new form, and the move's back
 abbrev pub writtenIn : Fields → List ℕ → List ℕ
-writtenIn fields out = storedIn (writeAnswer fields (length out)) (writeOutput fields out)
+writtenIn fields out = storedOf newBytes (written fields) out
 
 abbrev pub newIn : List ℕ → List ℕ → List ℕ
-newIn table out = storedIn (newAnswer table (length out)) (newOutput table out)
+newIn table out = storedOf newBytes (alone table) out
 
 abbrev pub oldIn : List ℕ → List ℕ → List ℕ
-oldIn table out = storedIn (oldAnswer table (length out)) (oldOutput table out)
+oldIn table out = storedOf oldBytes (returned table) out
 
 -- a table of the new form in the old one, with its charge and its core bytes beside it
 abbrev pub besideOf : List ℕ → Table
-besideOf table = beside (oldBytes (newFields table)) (newform.chargeByte table) (take (newform.taskCount table) (newFields table .affinity))
+besideOf table = beside (oldBytes (new table .fields)) (new table .fields .charge) (take (new table .fields .n) (new table .fields .affinity))
 
--- A call that is accepted: a table of bytes that the move takes to the new form, and one that the move takes back.
-pub record MovesOn (table out : List ℕ) : Type 0 where
-  pub bytes : Bytes table
-  pub accepted : newAnswer table (length out) .outcome ≡ Accepted
+-- A call that is accepted, which stores the fields of a table of bytes.
+pub record Accepts (bytes : Fields → List ℕ) (t : Table) (table out : List ℕ) : Type 0 where
+  pub small : Bytes table
+  pub accepted : transferOf Buffer bytes t (length out) .outcome ≡ Accepted
 
-pub record MovesBack (table out : List ℕ) : Type 0 where
-  pub bytes : Bytes table
-  pub accepted : oldAnswer table (length out) .outcome ≡ Accepted
+abbrev pub MovesOn : List ℕ → List ℕ → Type 0
+MovesOn table out = Accepts newBytes (alone table) table out
+
+abbrev pub MovesBack : List ℕ → List ℕ → Type 0
+MovesBack table out = Accepts oldBytes (returned table) table out
+
+-- What a call that stores a table's fields does, in this form and size: a call within its limits is accepted, any other is refused with the number and
+-- place of the first condition that holds, 8 last (demand 1). An accepted call puts the table in front of the lent output and leaves every byte behind it; a refused
+-- one leaves the whole output, and its length is 0.
+pub record StoresIn (bytes : Fields → List ℕ) (Form : List ℕ → Type 0) (size : ℕ) (t : Table) : Type 0 where
+  pub decides : (out : List ℕ) → Decided (lent Buffer 8 t size (length out)) (transferOf Buffer bytes t (length out) .outcome)
+  pub stores : (out : List ℕ) → Stores Form size out (transferOf Buffer bytes t (length out)) (exitOf Buffer bytes t out)
 
 -- The laws of the two forms, over the definitions that the calls equal.
 pub record Forms : Type 0 where
-  -- Demand 1. A call within its limits is accepted; any other is refused with the number and place of the first condition that holds.
-  pub writes : (fields : Fields) (out : List ℕ) → Decides (ValidWrite fields (length out)) (writeConditions fields (length out)) (writeAnswer fields (length out) .outcome)
-  pub moves-on : (table out : List ℕ) → Decides (ValidMoveOn table (length out)) (moveOnConditions table (length out)) (newAnswer table (length out) .outcome)
-  pub moves-back : (table out : List ℕ) → Decides (ValidMoveBack table (length out)) (moveBackConditions table (length out)) (oldAnswer table (length out) .outcome)
-  -- An accepted call puts its table in front of the lent output and leaves every byte behind it; a refused one leaves the whole output, and its length is 0.
-  pub written : (fields : Fields) (out : List ℕ) → Stores (NewForm fields) (4 + 9 * fields .n) out (writeAnswer fields (length out)) (writeOutput fields out)
-  pub moved-on : (table out : List ℕ) → Stores (NewForm (aloneFields table)) (4 + 9 * taskCount table) out (newAnswer table (length out)) (newOutput table out)
-  pub moved-back : (table out : List ℕ) → Stores (OldForm (newFields table)) (2 + 8 * newform.taskCount table) out (oldAnswer table (length out)) (oldOutput table out)
+  -- The writer, the move to the new form, and the move back.
+  pub writes : (fields : Fields) → StoresIn newBytes (NewForm fields) (4 + 9 * fields .n) (written fields)
+  pub moves-on : (table : List ℕ) → StoresIn newBytes (NewForm (alone table .fields)) (4 + 9 * getD table 0 0) (alone table)
+  pub moves-back : (table : List ℕ) → StoresIn oldBytes (OldForm (new table .fields)) (2 + 8 * getD table 1 0) (returned table)
   -- Reading what the writer wrote gives its fields, with 0 beyond n; writing what was read gives the bytes.
-  pub read-back : (fields : Fields) (out : List ℕ) → writeAnswer fields (length out) .outcome ≡ Accepted → readingOf (new (writtenIn fields out)) ≡ acceptedReading (cut fields)
-  pub write-back : (table : List ℕ) → Bytes table → ValidNew table → Yields (writeAnswer (newFields table)) (writeOutput (newFields table)) table
+  pub read-back : (fields : Fields) (out : List ℕ) → transferOf Buffer newBytes (written fields) (length out) .outcome ≡ Accepted
+      → readingOf (new (writtenIn fields out)) ≡ acceptedReading (cut fields)
+  pub write-back : (table : List ℕ) → Bytes table → new table .Valid → Yields Buffer newBytes (written (new table .fields)) table
   -- The writer reads nothing beyond n: fields that are equal up to n give the same answer and output.
-  pub unread : (f g : Fields) → Alike f g → (out : List ℕ) → (writeAnswer g (length out) ≡ writeAnswer f (length out)) × (writeOutput g out ≡ writeOutput f out)
+  pub unread : (f g : Fields) → Alike f g → (out : List ℕ)
+      → (transferOf Buffer newBytes (written g) (length out) ≡ transferOf Buffer newBytes (written f) (length out))
+      × (exitOf Buffer newBytes (written g) out ≡ exitOf Buffer newBytes (written f) out)
   -- Old to new to old gives the same bytes, and so does new to old to new where the move back is accepted.
-  pub there-and-back : (table out : List ℕ) → MovesOn table out → Yields (oldAnswer (newIn table out)) (oldOutput (newIn table out)) table
-  pub back-and-there : (table out : List ℕ) → MovesBack table out → Yields (newAnswer (oldIn table out)) (newOutput (oldIn table out)) table
+  pub there-and-back : (table out : List ℕ) → MovesOn table out → Yields Buffer oldBytes (returned (newIn table out)) table
+  pub back-and-there : (table out : List ℕ) → MovesBack table out → Yields Buffer newBytes (alone (oldIn table out)) table
   -- A moved table reads as it did by itself, with charge 0 and every core permitted, so that every call answers the same (`SameAnswers`),
   pub reads-alike : (table out : List ℕ) → MovesOn table out → readingOf (new (newIn table out)) ≡ readingOf (alone table)
   pub reads-alike-back : (table out : List ℕ) → MovesBack table out → readingOf (alone (oldIn table out)) ≡ readingOf (new table)

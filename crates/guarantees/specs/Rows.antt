@@ -6,14 +6,16 @@ use mathlib.Core.List.{List, [], _∷_, _++_}
 use lib.ListN.{length, replicate}
 use Rattle.numbers.specs.Rows.{row, entry}
 use Rattle.refusal.specs.Conditions.{Gives}
+use Rattle.refusal.specs.declared.Cause.the-variants.{Buffer}
 use Rattle.refusal.specs.declared.Outcome.the-variants.{Accepted}
-use Rattle.taskset.specs.Table.{readingOf}
+use Rattle.taskset.specs.Table.{Table, readingOf}
 use Rattle.taskset.specs.declared.Fields.{Fields}
-use Rattle.oldform.specs.Form.{oldTable, everyAffinity}
-use Rattle.oldform.specs.Limits.{beside}
-use Rattle.newform.specs.Form.{newTable}
+use Rattle.oldform.specs.Form.{oldTable, everyAffinity, oldBytes}
+use Rattle.oldform.specs.Limits.{beside, alone}
+use Rattle.newform.specs.Form.{newTable, newBytes}
 use Rattle.newform.specs.Limits.{new}
-use Rattle.transfer.specs.Calls.{writeAnswer, writeOutput, newAnswer, newOutput, oldAnswer, oldOutput}
+use Rattle.transfer.specs.Lent.{transferOf, exitOf}
+use Rattle.transfer.specs.Tables.{written, returned}
 use Rattle.transfer.specs.declared.Transfer.{Transfer}
 use Rattle.planner.specs.Plan.{planOf, verdictOutcome}
 use Rattle.planner.specs.declared.Verdict.{Verdict}
@@ -35,16 +37,23 @@ pub data Storing : Type 0 where
   toNew : List ℕ → Storing
   toOld : List ℕ → Storing
 
+-- the table that it goes by, and the bytes that it makes of the fields
+abbrev pub tableFor : Storing → Table
+tableFor (write fields) = written fields
+tableFor (toNew table) = alone table
+tableFor (toOld table) = returned table
+
+abbrev pub bytesFor : Storing → Fields → List ℕ
+bytesFor (write fields) = newBytes
+bytesFor (toNew table) = newBytes
+bytesFor (toOld table) = oldBytes
+
 -- its answer for an output of this length, and the output at exit
 abbrev pub answerTo : Storing → ℕ → Transfer
-answerTo (write fields) room = writeAnswer fields room
-answerTo (toNew table) room = newAnswer table room
-answerTo (toOld table) room = oldAnswer table room
+answerTo call room = transferOf Buffer (bytesFor call) (tableFor call) room
 
 abbrev pub outAfter : Storing → List ℕ → List ℕ
-outAfter (write fields) out = writeOutput fields out
-outAfter (toNew table) out = newOutput table out
-outAfter (toOld table) out = oldOutput table out
+outAfter call out = exitOf Buffer (bytesFor call) (tableFor call) out
 
 -- A row: a table's hyperperiod; a plan with its verdict, cores, left-out demand and steps; a quick plan with its cores and left-out demand;
 -- a step ceiling; a refusal with its number and place; a fresh core's slots, or its refusal; the tasks run by the ticks of a fresh core; one tick of

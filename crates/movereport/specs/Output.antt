@@ -6,10 +6,7 @@ use Rattle.text.specs.Shown.{shown}
 use Rattle.refusal.specs.declared.Outcome.{Outcome}
 use Rattle.refusal.specs.Tests.{byOutcome}
 use Rattle.taskset.specs.Table.{Table}
-use Rattle.oldform.specs.Form.{aloneFields, oldBytes}
-use Rattle.oldform.specs.Limits.{alone}
-use Rattle.newform.specs.Form.{newFields, newBytes}
-use Rattle.transfer.specs.Limits.{returned}
+use Rattle.taskset.specs.declared.Fields.{Fields}
 use Rattle.listing.specs.Printed.{printed}
 use Rattle.movereport.specs.declared.Moved.{Moved}
 
@@ -22,14 +19,6 @@ pub record Shows (bytes line : List ℕ) (r : Moved) : Type 0 where
 unfoldable pub movedBytes : Outcome → List ℕ → List ℕ
 movedBytes = byOutcome (λ cause. []) (λ bytes. bytes)
 
--- The output of a move of this table, whose bytes in the other form are these: these bytes, or the line of the refusal.
-abbrev pub MoveOutput : Table → List ℕ → Moved → Type 0
-MoveOutput t bytes r = Shows (movedBytes (t .outcome) bytes) (printed (t .outcome) []) r
-
--- of `tonew`, for the bytes of a table in the old form
-abbrev pub NewOutput : List ℕ → Moved → Type 0
-NewOutput s r = MoveOutput (alone s) (newBytes (aloneFields s)) r
-
--- of `toold`, for the bytes of a table in the new form
-abbrev pub OldOutput : List ℕ → Moved → Type 0
-OldOutput s r = MoveOutput (returned s) (oldBytes (newFields s)) r
+-- The output of a move of this table, whose fields are moved as these bytes: these, or the line of the refusal.
+abbrev pub MoveOutput : (Fields → List ℕ) → Table → Moved → Type 0
+MoveOutput bytes t r = Shows (movedBytes (t .outcome) (bytes (t .fields))) (printed (t .outcome) []) r

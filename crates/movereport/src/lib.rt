@@ -3,9 +3,13 @@ ghost use mathlib.Core.List.{[]};
 ghost use Prim.Native.Nat.{_≤_};
 ghost use lib.ListN.{length};
 ghost use Rattle.listing.specs.Printed.{printed};
+ghost use Rattle.oldform.specs.Form.{oldBytes};
+ghost use Rattle.oldform.specs.Limits.{alone};
+ghost use Rattle.newform.specs.Form.{newBytes};
+ghost use Rattle.transfer.specs.Tables.{returned};
 ghost use Rattle.transfer.specs.Promise.{storedIn};
-ghost use Rattle.movereport.specs.Output.{Shows, NewOutput, OldOutput};
-ghost use Rattle.movereport.specs.Reported.{NewReported, OldReported};
+ghost use Rattle.movereport.specs.Output.{Shows, MoveOutput};
+ghost use Rattle.movereport.specs.Reported.{MoveReported};
 use text::Text;
 use transfer::Transfer;
 
@@ -33,8 +37,8 @@ fn texts(answer: Transfer, out: &[u8]) -> Moved
 
 // The output of `tonew` for the bytes of a table in the old form. A table in the new form has at most 148 bytes.
 pub fn to_new(table: &[u8]) -> Moved
-    ensures answer { λ r. ⌜ NewOutput (now (table .entry)) r ⌝ }
-    ensures reported { λ r. ⌜ NewReported (now (table .entry)) r ⌝ }
+    ensures answer { λ r. ⌜ MoveOutput newBytes (alone (now (table .entry))) r ⌝ }
+    ensures reported { λ r. ⌜ MoveReported newBytes (alone (now (table .entry))) r ⌝ }
 {
     let mut out = [0u8; 148];
     let answer = transfer::to_new(table, &mut out);
@@ -43,8 +47,8 @@ pub fn to_new(table: &[u8]) -> Moved
 
 // The output of `toold` for the bytes of a table in the new form. A table in the old form has at most 130 bytes.
 pub fn to_old(table: &[u8]) -> Moved
-    ensures answer { λ r. ⌜ OldOutput (now (table .entry)) r ⌝ }
-    ensures reported { λ r. ⌜ OldReported (now (table .entry)) r ⌝ }
+    ensures answer { λ r. ⌜ MoveOutput oldBytes (returned (now (table .entry))) r ⌝ }
+    ensures reported { λ r. ⌜ MoveReported oldBytes (returned (now (table .entry))) r ⌝ }
 {
     let mut out = [0u8; 130];
     let answer = transfer::to_old(table, &mut out);

@@ -22,7 +22,7 @@ use Rattle.taskset.proofs.TableLaws.{read-decided, read-reads}
 use Rattle.form.specs.Shape.{shortTest, tooShort, otherLength, formOutcome}
 use Rattle.form.specs.Layout.{fieldsAt, Bounded, ReadsIn}
 use Rattle.form.proofs.ShapeLaws.{short-tested, form-tested, form-read}
-use Rattle.form.proofs.LayoutLaws.{word-stands, byte-stands, fields-bounded, reads-in}
+use Rattle.form.proofs.LayoutLaws.{byte-stands, fields-stand, fields-bounded, reads-in}
 use Rattle.newform.specs.Form.{firstByte, taskCount, chargeByte, newLength, newFields, NewForm}
 use Rattle.newform.specs.Limits.{ValidNew, firstTest, firstOther, newConditions, newOutcome, new}
 
@@ -50,14 +50,16 @@ new-form : (s : List ℕ) → ValidNew s → NewForm (newFields s) s
 unfolding newFields
 new-form s v =
     let few = v .fields .sizes .tasks .1 in
+    let bytes = row 0 (taskCount s) (byteAt s (4 + 8 * taskCount s)) in
+    let stands = fields-stand s 1 4 (chargeByte s) bytes (taskCount s) few in
     record {
       first = v .first;
-      tasks = refl;
-      cores = refl;
+      tasks = stands .tasks;
+      cores = stands .cores;
       charge = refl;
-      periods = λ k h. word-stands s 4 (taskCount s) few k h;
-      budgets = λ k h. word-stands s (4 + 4 * taskCount s) (taskCount s) few k h;
-      affinity = λ k h. byte-stands s (4 + 8 * taskCount s) (taskCount s) few k h;
+      periods = stands .periods;
+      budgets = stands .budgets;
+      affinity = byte-stands s (4 + 8 * taskCount s) (taskCount s) few;
     }
 
 new-bounded : (s : List ℕ) → Bounded (newFields s)

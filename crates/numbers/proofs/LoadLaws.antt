@@ -90,19 +90,6 @@ unfolding demandOn sumOver
 none-rejects [] = refl
 none-rejects (w ∷ ws) = ap (λ (x : ℕ). w + x) (none-rejects ws)
 
--- the demand of the first tasks on a choice, with one task more
-pub demandOn-take-zero : (c : ℕ) (ws p : List ℕ) → demandOn c (take 0 ws) p ≡ 0
-unfolding demandOn
-demandOn-take-zero c ws p = refl
-
-pub demandOn-take-suc : (c : ℕ) (ws p : List ℕ) (k : ℕ)
-    → demandOn c (take (suc k) ws) p ≡ demandOn c (take k ws) p + cond (ltb k (length p) && eqb (getD p k 0) c) (getD ws k 0) 0
-unfolding demandOn
-demandOn-take-suc c [] p k = rw take-nil (cond-both (λ n. 0 ≡ 0 + n) (ltb k (length p) && eqb (getD p k 0) c) 0 0 refl refl)
-demandOn-take-suc c (w ∷ ws) [] k = rw (demandOn-none c (take k (w ∷ ws)), le-ltb k 0 zero-le)
-demandOn-take-suc c (w ∷ ws) (x ∷ p) zero = rw (lt-ltb 0 (suc (length p)) (omega arith)) (omega arith)
-demandOn-take-suc c (w ∷ ws) (x ∷ p) (suc k) = rw (leb·suc-suc (suc k) (length p)) (omega (arith, demandOn-take-suc c ws p k))
-
 -- ---- the demand on a choice as a sum over tasks
 
 -- what task t adds to the demand on c

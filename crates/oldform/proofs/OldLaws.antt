@@ -1,8 +1,8 @@
 -- A stored table's tests are those of its limits and refusals, and what its readers are promised.
-use Prim.Native.Nat.{ℕ, _+_, _*_, _≤_}
+use Prim.Native.Nat.{ℕ, _≤_}
 use mathlib.Core.Path.{_≡_, refl, sym, _∙_}
 use mathlib.Core.List.{List, [], _∷_, _++_}
-use lib.ListN.{length-replicate}
+use lib.ListN.{length}
 use native.Mathlib.Omega.{arith}
 use Rattle.numbers.specs.Rows.{row, entry}
 use Rattle.numbers.proofs.RowLaws.{getD-row, row-beyond}
@@ -18,7 +18,7 @@ use Rattle.taskset.proofs.TableLaws.{read-decided, read-reads}
 use Rattle.form.specs.Shape.{tooShort, otherLength}
 use Rattle.form.specs.Layout.{Bounded, ReadsIn}
 use Rattle.form.proofs.ShapeLaws.{short-tested, form-tested}
-use Rattle.form.proofs.LayoutLaws.{word-stands, fields-bounded, reads-in}
+use Rattle.form.proofs.LayoutLaws.{fields-stand, fields-bounded, reads-in}
 use Rattle.oldform.specs.Form.{taskCount, oldLength, oldFields, besideFields, everyAffinity, aloneFields, FormBeside}
 use Rattle.oldform.specs.Limits.{ValidBeside, besideConditions, aloneConditions, oldOutcome, beside, alone}
 use Rattle.oldform.proofs.FormLaws.{every-counted, every-affinity}
@@ -67,16 +67,13 @@ alone-sized s n = sizes-kept (aloneFields s) .0 (n .1 .0 also n .1 .1 .0 also tt
 -- each part of an accepted table stands at its place
 beside-form : (s : List ℕ) (charge : ℕ) (affinity : List ℕ) → taskCount s ≤ 16 → FormBeside charge affinity (besideFields s charge affinity) s
 unfolding besideFields
-beside-form s charge affinity few = record {
-  form = record {
-    tasks = refl;
-    cores = refl;
-    periods = λ k h. word-stands s 2 (taskCount s) few k h;
-    budgets = λ k h. word-stands s (2 + 4 * taskCount s) (taskCount s) few k h;
-  };
-  charged = refl;
-  bytes = λ k h. getD-row 0 (taskCount s) (entry affinity) k h few;
-}
+beside-form s charge affinity few =
+    let stands = fields-stand s 0 2 charge (row 0 (taskCount s) (entry affinity)) (length affinity) few in
+    record {
+      form = record { tasks = stands .tasks; cores = stands .cores; periods = stands .periods; budgets = stands .budgets };
+      charged = refl;
+      bytes = λ k h. getD-row 0 (taskCount s) (entry affinity) k h few;
+    }
 
 module _ (s : List ℕ) (charge : ℕ) (affinity : List ℕ) where
   beside-valid : ValidBeside s charge affinity → FormBeside charge affinity (besideFields s charge affinity) s
@@ -87,6 +84,10 @@ module _ (s : List ℕ) (charge : ℕ) (affinity : List ℕ) where
   unfolding besideFields
   beside-bounded = fields-bounded s 0 2 charge _ _ (λ k h. row-beyond 0 (taskCount s) (entry affinity) k h)
 
+  pub beside-stored : {r : Reading} → r ≡ readingOf (beside s charge affinity) → ReadsIn (FormBeside charge affinity) s r
+  unfolding beside
+  beside-stored = reads-in (beside-sound s charge affinity) s beside-valid beside-bounded
+
   -- a reading by the tests is the table's
   pub beside-read : {f : Fields} {r : Reading} → r ≡ readingBy (oldOutcome s f) f → f ≡ besideFields s charge affinity
       → (r ≡ readingOf (beside s charge affinity)) × (Decided (beside s charge affinity) (r .outcome) × (Reads r × ReadsIn (FormBeside charge affinity) s r))
@@ -94,7 +95,11 @@ module _ (s : List ℕ) (charge : ℕ) (affinity : List ℕ) where
   beside-read {r = r} h e =
       let sound = beside-sound s charge affinity in
       let a : r ≡ readingOf (beside s charge affinity) = h ∙ rw e in
-      (a, (read-decided _ a sound, (read-reads _ a sound, reads-in sound s beside-valid beside-bounded a)))
+      (a, (read-decided _ a sound, (read-reads _ a sound, beside-stored a)))
+
+pub alone-stored : (s : List ℕ) {r : Reading} → r ≡ readingOf (alone s) → ReadsIn (FormBeside 0 (everyAffinity s)) s r
+unfolding alone
+alone-stored s = reads-in (alone-sound s) s (beside-valid s 0 (everyAffinity s)) (beside-bounded s 0 (everyAffinity s))
 
 pub alone-read : (s : List ℕ) {f : Fields} {r : Reading} → r ≡ readingBy (oldOutcome s f) f → f ≡ aloneFields s
     → (r ≡ readingOf (alone s)) × (Decided (alone s) (r .outcome) × (Reads r × ReadsIn (FormBeside 0 (everyAffinity s)) s r))
@@ -102,4 +107,4 @@ unfolding readingOf alone
 alone-read s {r = r} h e =
     let sound = alone-sound s in
     let a : r ≡ readingOf (alone s) = h ∙ rw e in
-    (a, (read-decided _ a sound, (read-reads _ a sound, reads-in sound s (beside-valid s 0 (everyAffinity s)) (beside-bounded s 0 (everyAffinity s)) a)))
+    (a, (read-decided _ a sound, (read-reads _ a sound, alone-stored s a)))

@@ -15,12 +15,13 @@ use Rattle.taskset.specs.Table.{Table, readingOf}
 use Rattle.taskset.specs.declared.Fields.{Fields}
 use Rattle.taskset.specs.declared.TaskSet.{TaskSet}
 use Rattle.taskset.specs.declared.Reading.{Reading}
+use Rattle.taskset.proofs.DemandLaws.{hyperperiod-held}
 use Rattle.taskset.proofs.TableLaws.{read-answer}
 use Rattle.planning.specs.Problem.{tableProblem, orderOf}
 use Rattle.planning.specs.Prepared.{Prepares}
 use Rattle.planning.specs.declared.Prepared.{Prepared}
-use Rattle.planning.proofs.PreparedLaws.{hyperperiod-is, put-back}
-use Rattle.allocation.specs.Placement.{problemOf}
+use Rattle.planning.proofs.PreparedLaws.{put-back}
+use Rattle.allocation.specs.Placement.{Problem, problemOf}
 use Rattle.allocation.specs.Walk.{WalkAnswer, answer}
 use Rattle.allocation.specs.TableOrder.{inPlanningOrder, tableAnswer}
 use Rattle.search.specs.Search.{Ranges, foundOf}
@@ -39,29 +40,39 @@ ranges c d each = record {
   few = c .within .sizes .tasks .1;
   one-core = c .within .sizes .cores .0;
   few-cores = c .within .sizes .cores .1;
-  small = rw (hyperperiod-is c) (c .within .multiple);
+  small = rw (hyperperiod-held c) (c .within .multiple);
   each = each;
 }
 
--- what the search finds of the table's problem in planning order, back in table order, is the plan
+-- what an engine finds of a checked task set is its answer to the table's problem in planning order, and its choices go back into table order
+module _ (engine : Problem → WalkAnswer) {t : TaskSet} {o : List ℕ} {p : Prepared} (s : Prepares t o p)
+    {found : Found} (w : found ≡ foundOf (engine (problemOf (t .hyperperiod) (t .fields .m) (take (t .fields .n) (p .demands)) (take (t .fields .n) (p .affinity))))) where
+  abbrev answered : WalkAnswer
+  answered = engine (inPlanningOrder (tableProblem (t .fields)) (orderOf (t .fields)))
+
+  pub found-is : found ≡ foundOf answered
+  found-is = w ∙ ap (λ P. foundOf (engine P)) (s .problem)
+
+  pub found-back : {q : List ℕ} → q ≡ row 0 (t .fields .n) (entry (scatter (take (t .fields .n) o) (found .placement)))
+      → q ≡ row 0 (t .fields .n) (entry (scatter (orderOf (t .fields)) (answered .placement)))
+  unfolding foundOf
+  found-back x = put-back s (answered .placement) (ap (λ g. g .placement) found-is) x
+
+-- so what the search finds is the plan
 module _ {t : TaskSet} {o : List ℕ} {p : Prepared} (s : Prepares t o p) (limit : ℕ)
     {found : Found} (w : found ≡ foundOf (answer (problemOf (t .hyperperiod) (t .fields .m) (take (t .fields .n) (p .demands)) (take (t .fields .n) (p .affinity))) limit)) where
-  a : WalkAnswer
-  a = answer (inPlanningOrder (tableProblem (t .fields)) (orderOf (t .fields))) limit
-
-  found-is : found ≡ foundOf a
-  unfolding a
-  found-is = w ∙ ap (λ P. foundOf (answer P limit)) (s .problem)
-
   pub plan-is : {q : List ℕ} {v : Verdict} → q ≡ row 0 (t .fields .n) (entry (scatter (take (t .fields .n) o) (found .placement)))
       → v ≡ verdictOf (found .spent) (found .rejected)
       → _≡_ {A = Allocation} (record { verdict = v; placement = q; rejected = found .rejected; steps = found .steps }) (planFor (t .fields) limit)
-  unfolding planFor allocationOf tableAnswer foundOf a
+  unfolding planFor allocationOf tableAnswer foundOf
   plan-is {q} {v} x y =
-      let e : q ≡ row 0 (t .fields .n) (entry (scatter (orderOf (t .fields)) (a .placement))) =
-      put-back s (a .placement) (ap (λ g. g .placement) found-is) x in
-      let u : v ≡ verdictOf (a .spent) (a .rejected) = y ∙ ap (λ g. verdictOf (g .spent) (g .rejected)) found-is in
-      λ i. record { verdict = u i; placement = e i; rejected = found-is i .rejected; steps = found-is i .steps }
+      let z = found-is (λ P. answer P limit) s w in
+      λ i. record {
+        verdict = (y ∙ ap (λ g. verdictOf (g .spent) (g .rejected)) z) i;
+        placement = found-back (λ P. answer P limit) s w x i;
+        rejected = z i .rejected;
+        steps = z i .steps;
+      }
 
 -- ---- the verdict
 

@@ -12,7 +12,7 @@ use Rattle.taskset.specs.Fields.{affinityAt}
 use Rattle.taskset.specs.Demands.{hyperperiodOf, demandOf}
 use Rattle.taskset.specs.Reading.{taskSetOf}
 use Rattle.taskset.specs.Limits.{Checked}
-use Rattle.taskset.proofs.DemandLaws.{demand-range}
+use Rattle.taskset.proofs.DemandLaws.{demand-range, hyperperiod-held}
 use Rattle.taskset.specs.declared.TaskSet.{TaskSet}
 use Rattle.allocation.specs.Placement.{problemOf}
 use Rattle.allocation.specs.TableOrder.{inPlanningOrder}
@@ -27,17 +27,13 @@ module _ {t : TaskSet} (c : Checked t) where
   few : t .fields .n ≤ 16
   few = c .within .sizes .tasks .1
 
-  pub hyperperiod-is : t .hyperperiod ≡ hyperperiodOf (t .fields)
-  unfolding taskSetOf
-  hyperperiod-is = ap (λ x. x .hyperperiod) (c .is)
-
   demands-are : t .demands ≡ row 0 (t .fields .n) (demandOf (t .fields))
   unfolding taskSetOf
   demands-are = ap (λ x. x .demands) (c .is)
 
   pub demand-small : (k : ℕ) → getD (t .demands) k 0 ≤ t .hyperperiod
   demand-small k =
-      rw (demands-are, hyperperiod-is)
+      rw (demands-are, hyperperiod-held c)
       (row-each 0 (λ x. x ≤ hyperperiodOf (t .fields)) (t .fields .n) (demandOf (t .fields)) zero-le (λ j h. demand-range (c .within) h .1) k)
 
   module _ {o : List ℕ} (e : o ≡ planningOrder t) where
@@ -58,7 +54,7 @@ module _ {t : TaskSet} (c : Checked t) where
           rw (q, demands-are) (gathered-tasks order-listed (demandOf (t .fields)) ∙ ap (λ l. gather l (tab (t .fields .n) (demandOf (t .fields)))) front) in
           let v : take (t .fields .n) b ≡ gather (orderOf (t .fields)) (tab (t .fields .n) (affinityAt (t .fields))) =
           rw u (gathered-entries order-listed (t .fields .affinity) ∙ ap (λ l. gather l (tab (t .fields .n) (affinityAt (t .fields)))) front) in
-          λ i. record { capacity = hyperperiod-is i; cores = t .fields .m; demands = w i; affinity = v i }
+          λ i. record { capacity = hyperperiod-held c i; cores = t .fields .m; demands = w i; affinity = v i }
 
       pub prepared-is : Prepares t o (record { demands = d; affinity = b })
       prepared-is = record {

@@ -1,15 +1,20 @@
 -- A feasible placement of a table's problem is safe, and the stated order is the planning order.
 use Prim.Native.Nat.{ℕ, _≤_, _<_}
-use mathlib.Core.Path.{_≡_, sym, _∙_}
+use mathlib.Core.Path.{_≡_, sym, _∙_, ap}
+use mathlib.Core.Bool.{cond}
 use mathlib.Core.List.{List}
+use lib.Dec.{eqb}
 use lib.ListN.{length, getD}
 use native.Mathlib.Omega.{arith}
 use Rattle.numbers.specs.Rows.{tab, row, entry}
 use Rattle.numbers.specs.Sorting.{Permutation}
+use Rattle.numbers.specs.Sums.{sumTo}
+use Rattle.numbers.proofs.LoadLaws.{share, demand-listed}
+use Rattle.numbers.proofs.SumLaws.{sumTo-cong}
 use Rattle.numbers.proofs.RowLaws.{row-beyond, length-tab, getD-tab, getD-row, take-row}
 use Rattle.numbers.proofs.SortingLaws.{permutation-below}
 use Rattle.taskset.specs.Fields.{affinityAt}
-use Rattle.taskset.specs.Demands.{demandOf}
+use Rattle.taskset.specs.Demands.{demandOf, loadOn}
 use Rattle.taskset.specs.Limits.{Within}
 use Rattle.taskset.specs.Reading.{taskSetOf}
 use Rattle.taskset.proofs.DemandLaws.{hyperperiod-is, demand-exact, demand-range}
@@ -17,7 +22,7 @@ use Rattle.taskset.specs.declared.Fields.{Fields}
 use Rattle.planning.specs.Problem.{tableProblem, orderOf}
 use Rattle.planning.proofs.PlainOrder.{in-order}
 use Rattle.planning.proofs.OrderLaws.{sorted-is}
-use Rattle.allocation.specs.Placement.{Feasible, rejected}
+use Rattle.allocation.specs.Placement.{Feasible, load, rejected}
 use Rattle.plans.specs.Safe.{choicesOf, ExactDemands, Safe, StatedOrder}
 
 module _ (f : Fields) (w : Within f) where
@@ -46,6 +51,15 @@ module _ (f : Fields) (w : Within f) where
   pub order-permutation : Permutation (length (tableProblem f .demands)) (orderOf f)
   order-permutation = rw demands-long (stated-order .1)
 
+  -- the load of a placement as a sum over tasks
+  pub planned-load : (p : List ℕ) (core : ℕ) → length p ≡ f .n → load (tableProblem f) core p ≡ loadOn f p core
+  unfolding tableProblem loadOn share
+  planned-load p core long =
+      let ws = tab (f .n) (demandOf f) in
+      demand-listed core ws p (long ∙ sym (length-tab 0 (f .n) (demandOf f)))
+      ∙ ap (sumTo (share core ws p)) (length-tab 0 (f .n) (demandOf f))
+      ∙ sumTo-cong (share core ws p) _ (f .n) (λ k h. ap (λ x. cond (eqb (entry p k) core) x 0) (getD-tab 0 (f .n) (demandOf f) k h))
+
   pub exact-demands : ExactDemands f
   unfolding tableProblem
   exact-demands = record {
@@ -64,17 +78,20 @@ module _ (f : Fields) (w : Within f) where
 
   -- a feasible placement as a row of sixteen
   module _ {p : List ℕ} (g : Feasible (tableProblem f) p) where
+    long : length p ≡ f .n
+    long = g .whole ∙ demands-long
+
     pub row-choices : choicesOf f (row 0 (f .n) (entry p)) ≡ p
-    row-choices = take-row (f .n) p (g .whole ∙ demands-long) few
+    row-choices = take-row (f .n) p long few
 
     pub row-safe : Safe f (row 0 (f .n) (entry p)) (rejected (tableProblem f) p)
     unfolding tableProblem
     row-safe = record {
       exact = exact-demands;
-      loads = λ core h l. rw row-choices (g .fits core h l);
+      loads = λ core h l. rw (row-choices, ← planned-load p core long) (g .fits core h l);
       feasible = rw row-choices g;
       permitted = λ k h. rw (getD-row 0 (f .n) (entry p) k h few) (λ i. rw (byte-at k h) at (g .permitted k (omega (arith, g .whole, demands-long)) i));
       bytes = w .affinities;
       beyond = λ k h. row-beyond 0 (f .n) (entry p) k h;
-      rejects = rw row-choices;
+      rejects = rw row-choices (planned-load p 0 long);
     }

@@ -9,11 +9,11 @@ use Rattle.numbers.specs.Rows.{entry}
 use Rattle.numbers.specs.Sorting.{Permutation}
 use Rattle.affinity.specs.Permitted.{permitted, CoreByte}
 use Rattle.taskset.specs.Fields.{periodAt, budgetAt, affinityAt}
-use Rattle.taskset.specs.Demands.{hyperperiodOf}
+use Rattle.taskset.specs.Demands.{hyperperiodOf, loadOn}
 use Rattle.taskset.specs.declared.Fields.{Fields}
 use Rattle.planning.specs.Order.{InOrder}
 use Rattle.planning.specs.Problem.{tableProblem, orderOf}
-use Rattle.allocation.specs.Placement.{Feasible, load, rejected}
+use Rattle.allocation.specs.Placement.{Feasible}
 
 -- the choices of the n tasks in a row of sixteen
 abbrev pub choicesOf : Fields → List ℕ → List ℕ
@@ -31,7 +31,7 @@ pub record Safe (f : Fields) (row : List ℕ) (out : ℕ) : Type 0 where
   -- The weights are exact, and count the charge.
   pub exact : ExactDemands f
   -- No plan puts an exact load above one on any core,
-  pub loads : (core : ℕ) → 1 ≤ core → core ≤ f .m → load (tableProblem f) core (choicesOf f row) ≤ hyperperiodOf f
+  pub loads : (core : ℕ) → 1 ≤ core → core ≤ f .m → loadOn f (choicesOf f row) core ≤ hyperperiodOf f
   -- and each task has a core of the table, or is left out; entries beyond n are 0.
   pub feasible : Feasible (tableProblem f) (choicesOf f row)
   -- No task is on a core that its core byte does not permit;
@@ -39,8 +39,8 @@ pub record Safe (f : Fields) (row : List ℕ) (out : ℕ) : Type 0 where
   -- a core byte is 1 if it permits core 1, and 2, 4 and 8 more for cores 2, 3 and 4: it permits a core of the table, and none above.
   pub bytes : (k : ℕ) → k < f .n → CoreByte (f .m) (affinityAt f k)
   pub beyond : (k : ℕ) → f .n ≤ k → entry row k ≡ 0
-  -- The rejected demand is that of the placement.
-  pub rejects : out ≡ rejected (tableProblem f) (choicesOf f row)
+  -- The rejected demand is that of the tasks that are left out.
+  pub rejects : out ≡ loadOn f (choicesOf f row) 0
 
 -- The stated order takes the tasks by falling demand, equal demands by shorter period, then by lower number; each task once.
 abbrev pub StatedOrder : Fields → Type 0

@@ -11,6 +11,7 @@ use Rattle.refusal.proofs.TestLaws.{accepted≢refused, by-both, by-says}
 use Rattle.refusal.proofs.ConditionLaws.{decides}
 use Rattle.refusal.specs.declared.Cause.{Cause}
 use Rattle.refusal.specs.declared.Outcome.the-variants.{Accepted, Refused}
+use Rattle.taskset.specs.Demands.{loadOn}
 use Rattle.taskset.specs.Limits.{Within}
 use Rattle.taskset.specs.Table.{Table, readingOf, Decided, Sound}
 use Rattle.taskset.specs.declared.Fields.{Fields}
@@ -18,8 +19,7 @@ use Rattle.taskset.specs.declared.Reading.{Reading}
 use Rattle.taskset.proofs.TableLaws.{table-accepts, table-within, read-answer}
 use Rattle.planning.specs.Problem.{tableProblem, orderOf}
 use Rattle.plans.specs.Safe.{choicesOf, Safe}
-use Rattle.plans.proofs.SafeLaws.{demands-long, stated-order, order-permutation, row-choices, row-safe}
-use Rattle.allocation.specs.Placement.{rejected}
+use Rattle.plans.proofs.SafeLaws.{demands-long, planned-load, stated-order, order-permutation, row-choices, row-safe}
 use Rattle.allocation.specs.TableOrder.{tableAnswer}
 use Rattle.allocation.specs.FirstFit.{QuickGuarantee}
 use Rattle.allocation.proofs.Quick.{quick-guaranteed}
@@ -63,7 +63,8 @@ module _ (f : Fields) (w : Within f) where
   plan-no-less : (limit : ℕ) → planFor f limit .verdict ≢ Spent → planFor f limit .rejected ≤ quickFor f .rejected
   unfolding quickFor
   plan-no-less limit h =
-      omega (arith, promised f w limit .safe .rejects, promised f w limit .best h .least (quickPlacement f) (keeps .feasible))
+      let s = promised f w limit .safe in
+      omega (arith, s .rejects, planned-load f w (choicesOf f (planFor f limit .placement)) 0 (s .feasible .whole ∙ demands-long f w), promised f w limit .best h .least (quickPlacement f) (keeps .feasible))
 
   first-plan : planFor f (f .n) .placement ≡ quickFor f .placement
   unfolding quickFor planFor allocationOf
@@ -72,7 +73,7 @@ module _ (f : Fields) (w : Within f) where
       (ap (λ (k : ℕ). tableAnswer (tableProblem f) (orderOf f) k .placement) (sym (demands-long f w)) ∙ keeps .descent)
 
   first-rejected : planFor f (f .n) .rejected ≡ quickFor f .rejected
-  first-rejected = promised f w (f .n) .safe .rejects ∙ ap (λ p. rejected (tableProblem f) (take (f .n) p)) first-plan ∙ sym (safe .rejects)
+  first-rejected = promised f w (f .n) .safe .rejects ∙ ap (λ p. loadOn f (take (f .n) p) 0) first-plan ∙ sym (safe .rejects)
 
   later-plans : (limit : ℕ) → f .n ≤ limit → planFor f limit .rejected ≤ quickFor f .rejected
   unfolding quickFor planFor allocationOf

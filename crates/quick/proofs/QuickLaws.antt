@@ -16,37 +16,33 @@ use Rattle.taskset.specs.declared.TaskSet.{TaskSet}
 use Rattle.planning.specs.Problem.{tableProblem, orderOf}
 use Rattle.planning.specs.Prepared.{Prepares}
 use Rattle.planning.specs.declared.Prepared.{Prepared}
-use Rattle.planning.proofs.PreparedLaws.{put-back}
 use Rattle.plans.proofs.SafeLaws.{order-permutation}
 use Rattle.allocation.specs.Placement.{Problem, problemOf, rejected}
 use Rattle.allocation.specs.TableOrder.{inPlanningOrder}
 use Rattle.allocation.specs.FirstFit.{firstFit, tableFit}
 use Rattle.allocation.proofs.FirstFit.{first-feasible}
 use Rattle.allocation.proofs.Reorder.{rejected-scatter}
-use Rattle.firstfit.specs.Fitted.{fittedOf}
-use Rattle.firstfit.specs.declared.Fitted.{Fitted}
+use Rattle.search.specs.Search.{foundOf}
+use Rattle.search.specs.declared.Found.{Found}
+use Rattle.firstfit.specs.Fit.{fitAnswer}
+use Rattle.planner.proofs.PlanLaws.{found-is, found-back}
 use Rattle.quick.specs.Quick.{quickPlacement, quickFor, refusedQuick, quickBy, quickOf}
 use Rattle.quick.specs.declared.QuickPlan.{QuickPlan}
 
 -- first fit in planning order, back in table order, is the quick plan
 module _ {t : TaskSet} (c : Checked t) {o : List ℕ} {p : Prepared} (s : Prepares t o p)
-    {fitted : Fitted} (w : fitted ≡ fittedOf (problemOf (t .hyperperiod) (t .fields .m) (take (t .fields .n) (p .demands)) (take (t .fields .n) (p .affinity)))) where
+    {found : Found} (w : found ≡ foundOf (fitAnswer (problemOf (t .hyperperiod) (t .fields .m) (take (t .fields .n) (p .demands)) (take (t .fields .n) (p .affinity))))) where
   abbrev P : Problem
   P = inPlanningOrder (tableProblem (t .fields)) (orderOf (t .fields))
 
-  fitted-is : fitted ≡ fittedOf P
-  fitted-is = w ∙ ap fittedOf (s .problem)
-
-  pub quick-is : {q : List ℕ} → q ≡ row 0 (t .fields .n) (entry (scatter (take (t .fields .n) o) (fitted .placement)))
-      → _≡_ {A = QuickPlan} (record { outcome = outcome.Accepted; placement = q; rejected = fitted .rejected }) (quickFor (t .fields))
-  unfolding quickFor quickPlacement tableFit fittedOf
-  quick-is {q} x =
-      let e : q ≡ row 0 (t .fields .n) (entry (scatter (orderOf (t .fields)) (firstFit P))) =
-      put-back s (firstFit P) (ap (λ g. g .placement) fitted-is) x in
-      let r : fitted .rejected ≡ rejected (tableProblem (t .fields)) (scatter (orderOf (t .fields)) (firstFit P)) =
-      ap (λ g. g .rejected) fitted-is
+  pub quick-is : {q : List ℕ} → q ≡ row 0 (t .fields .n) (entry (scatter (take (t .fields .n) o) (found .placement)))
+      → _≡_ {A = QuickPlan} (record { outcome = outcome.Accepted; placement = q; rejected = found .rejected }) (quickFor (t .fields))
+  unfolding quickFor quickPlacement tableFit foundOf fitAnswer
+  quick-is x =
+      let r : found .rejected ≡ rejected (tableProblem (t .fields)) (scatter (orderOf (t .fields)) (firstFit P)) =
+      ap (λ g. g .rejected) (found-is fitAnswer s w)
       ∙ sym (rejected-scatter (tableProblem (t .fields)) (orderOf (t .fields)) (order-permutation (t .fields) (c .within)) (firstFit P) (first-feasible P)) in
-      λ i. record { outcome = outcome.Accepted; placement = e i; rejected = r i }
+      λ i. record { outcome = outcome.Accepted; placement = found-back fitAnswer s w x i; rejected = r i }
 
 -- ---- by the outcome of the reading
 

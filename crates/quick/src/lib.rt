@@ -38,13 +38,13 @@ pub fn quick_tasks(t: TaskSet) -> QuickPlan
     let prepared = planning::prepare(t, order);
     let demands = prepared.demands;
     let permitted = prepared.affinity;
-    let fitted = firstfit::first_fit(demands, permitted, n, t.fields.m, t.hyperperiod);
-    let choices = fitted.placement;
+    let found = firstfit::first_fit(demands, permitted, n, t.fields.m, t.hyperperiod);
+    let choices = found.placement;
     let placement = planning::in_table_order(choices, order, n);
     QuickPlan {
         outcome: Outcome::Accepted,
         placement: placement,
-        rejected: fitted.rejected,
+        rejected: found.rejected,
     }
 }
 

@@ -72,21 +72,21 @@ pub record Fixed (J : Job) : Type 0 where
   pub small : total (problem J) ≤ 16000000
 
 -- A row of sixteen choices: zeros follow those of the tasks.
-pub record Row (J : Job) (l : List ℕ) : Type 0 where
+pub record Sixteen (J : Job) (l : List ℕ) : Type 0 where
   pub long : length l ≡ 16
   pub rest : drop (J .tasks) l ≡ replicate (16 - J .tasks) 0
 
 -- The choices made: the demands on the choices, `on`, are theirs.
 pub record Chosen (J : Job) (path on : List ℕ) (depth : ℕ) : Type 0 where
   pub depth-below : depth < J .tasks
-  pub path-row : Row J path
+  pub path-row : Sixteen J path
   pub loads-long : length on ≡ 5
   pub loads-are : (c : ℕ) → getD on c 0 ≡ load (problem J) c (take depth path)
   pub path-choices : (k : ℕ) → k < depth → getD path k 0 ≤ J .cores
 
 -- The stored placement and its rejected demand.
 pub record Kept (J : Job) (best : List ℕ) (out : ℕ) : Type 0 where
-  pub best-row : Row J best
+  pub best-row : Sixteen J best
   pub rejected-is : out ≡ rejected (problem J) (take (J .tasks) best)
 
 -- What holds whenever a choice is looked at: the walk has come this far.
@@ -292,7 +292,7 @@ module _ {J : Job} {L : Locals} {x : ℕ} (v : Looked J L x true) where
     abbrev made : List ℕ
     made = set (L .path) (L .depth) x
 
-    made-row : Row J made
+    made-row : Sixteen J made
     made-row = record {
       long = length-set (L .path) (L .depth) x ∙ s .chosen .path-row .long;
       rest = drop-set-lt (J .tasks) (L .path) (L .depth) x (s .chosen .depth-below) ∙ s .chosen .path-row .rest;

@@ -3,10 +3,9 @@ use Prim.Native.Nat.{ℕ}
 use mathlib.Core.Bool.{Bool, not}
 use mathlib.Core.List.{List, [], _∷_}
 use lib.Dec.{ltb, eqb}
-use lib.ListN.{length, take, replicate}
+use lib.ListN.{length, replicate}
 use Rattle.numbers.specs.Bounds.{outside}
 use Rattle.numbers.specs.First.{first}
-use Rattle.numbers.specs.Loads.{demandOn}
 use Rattle.numbers.specs.Rows.{entry}
 use Rattle.affinity.specs.Permitted.{allowed}
 use Rattle.refusal.specs.Tests.{_then_, refuseIf, refuseAt, inOrder, byOutcome}
@@ -15,9 +14,8 @@ use Rattle.refusal.specs.declared.Cause.the-variants.{Placement, CoreNumber, Ov
 use Rattle.refusal.specs.declared.Outcome.{Outcome}
 use Rattle.refusal.specs.declared.Outcome.the-variants.{Accepted, Refused}
 use Rattle.taskset.specs.declared.Fields.{Fields}
-use Rattle.taskset.specs.declared.TaskSet.{TaskSet}
 use Rattle.taskset.specs.Fields.{affinityAt}
-use Rattle.taskset.specs.Reading.{taskSetOf}
+use Rattle.taskset.specs.Demands.{hyperperiodOf, loadOn}
 use Rattle.taskset.specs.Table.{Table}
 use Rattle.edf.specs.Slots.{emptySlot}
 use Rattle.edf.specs.Fresh.{Tasks, freshSlots}
@@ -26,10 +24,6 @@ use Rattle.start.specs.declared.Started.{Started}
 -- a table's tasks under a placement, with the charge beside it, each first released at tick 0
 abbrev pub placedTasks : Fields → List ℕ → Tasks
 placedTasks f placement = record { n = f .n; periods = f .periods; budgets = f .budgets; placement = placement; charge = f .charge; firstReleases = [] }
-
--- the load that a placement puts on a core
-unfoldable pub loadOf : TaskSet → List ℕ → ℕ → ℕ
-loadOf t placement core = demandOn core (take (t .fields .n) (t .demands)) placement
 
 -- number 9: the placement's length is not n,
 abbrev pub placesTest : Fields → List ℕ → Outcome
@@ -54,14 +48,12 @@ abbrev pub coreTest : Fields → ℕ → Outcome
 coreTest f core = refuseIf (outside 1 (f .m) core) CoreNumber
 
 -- number 11: the chosen core's load is above the hyperperiod
-abbrev pub loadTest : TaskSet → List ℕ → ℕ → Outcome
-loadTest t placement core = refuseIf (ltb (t .hyperperiod) (loadOf t placement core)) Overload
+abbrev pub loadTest : Fields → List ℕ → ℕ → Outcome
+loadTest f placement core = refuseIf (ltb (hyperperiodOf f) (loadOn f placement core)) Overload
 
 -- numbers 9, 16, 10 and 11, in this order
-abbrev pub placingTests : TaskSet → List ℕ → ℕ → List Outcome
-placingTests t placement core =
-    placesTest (t .fields) placement ∷ entriesTest (t .fields) placement ∷ permittedTest (t .fields) placement ∷ coreTest (t .fields) core
-    ∷ loadTest t placement core ∷ []
+abbrev pub placingTests : Fields → List ℕ → ℕ → List Outcome
+placingTests f placement core = placesTest f placement ∷ entriesTest f placement ∷ permittedTest f placement ∷ coreTest f core ∷ loadTest f placement core ∷ []
 
 -- the answer where the call is refused: a record of zeros beside the cause
 unfoldable pub refusedStart : Cause → Started
@@ -75,10 +67,10 @@ startFor placement core f = record { outcome = Accepted; core = record { slots =
 unfoldable pub startBy : List ℕ → ℕ → Outcome → Fields → Started
 startBy placement core = byOutcome refusedStart (startFor placement core)
 
--- the outcome of the tests of a checked task set, a placement and a core number
-unfoldable pub placingOutcome : TaskSet → List ℕ → ℕ → Outcome
-placingOutcome t placement core = inOrder (placingTests t placement core)
+-- the outcome of the tests of fields, a placement and a core number
+unfoldable pub placingOutcome : Fields → List ℕ → ℕ → Outcome
+placingOutcome f placement core = inOrder (placingTests f placement core)
 
 -- the answer for a table, a placement and a core number: the table's tests come first
 unfoldable pub startOf : Table → List ℕ → ℕ → Started
-startOf t placement core = startBy placement core (t .outcome then placingOutcome (taskSetOf (t .fields)) placement core) (t .fields)
+startOf t placement core = startBy placement core (t .outcome then placingOutcome (t .fields) placement core) (t .fields)

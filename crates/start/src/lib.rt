@@ -1,15 +1,14 @@
 // A fresh core: the record that a core of a table starts from under a placement, or a refusal.
 ghost use mathlib.Core.Path.{_≡_};
-ghost use mathlib.Core.Bool.{cond, _&&_};
+ghost use mathlib.Core.Bool.{cond};
 ghost use Prim.Native.Nat.{_≤_, _<_};
-ghost use lib.Dec.{eqb, ltb};
-ghost use lib.ListN.{length, getD};
 ghost use Rattle.numbers.specs.First.{first};
 ghost use Rattle.edf.specs.Fresh.{slotFor, freshSlots};
+ghost use Rattle.taskset.specs.Demands.{loadOn};
 ghost use Rattle.taskset.specs.Limits.{Checked};
 ghost use Rattle.taskset.specs.Table.{Decided};
 ghost use Rattle.oldform.specs.Limits.{beside};
-ghost use Rattle.start.specs.Starts.{placedTasks, loadOf, placesTest, aboveAt, entriesTest, barredAt, permittedTest, coreTest, loadTest, placingOutcome, refusedStart, startBy, startOf};
+ghost use Rattle.start.specs.Starts.{placedTasks, placesTest, aboveAt, entriesTest, barredAt, permittedTest, coreTest, loadTest, placingOutcome, refusedStart, startBy, startOf};
 ghost use Rattle.start.specs.Limits.{placed, Starts};
 use edf::Slot;
 use refusal::Cause;
@@ -102,13 +101,6 @@ fn core_test(f: Fields, core: u8) -> Outcome
     )
 }
 
-// Whether the placement puts the task at `k` on the core.
-fn is_on(placement: &[u8], k: usize, core: u8) -> bool
-    ensures { λ r. ⌜ r ≡ (ltb k (length (now (placement .entry))) && eqb (getD (now (placement .entry)) k 0) core) ⌝ }
-{
-    (k < placement.len()) & (wire::byte(placement, k) == core)
-}
-
 // The demand of a task, if it is on the core.
 fn share(demand: u32, on: bool) -> u32
     ensures { λ r. ⌜ r ≡ cond on demand 0 ⌝ }
@@ -119,12 +111,12 @@ fn share(demand: u32, on: bool) -> u32
 // The load of a core: the sum of the demands of the tasks that are on it.
 fn load_on(t: TaskSet, placement: &[u8], core: u8) -> u32
     requires { ⌜ Checked t ⌝ }
-    ensures { λ r. ⌜ r ≡ loadOf t (now (placement .entry)) core ⌝ }
+    ensures { λ r. ⌜ r ≡ loadOn (t .fields) (now (placement .entry)) core ⌝ }
 {
     let mut sum: u32 = 0;
     let mut k: usize = 0;
     while k < t.fields.n {
-        sum += share(t.demands[k], is_on(placement, k, core));
+        sum += share(t.demands[k], wire::byte(placement, k) == core);
         k += 1;
     }
     sum
@@ -133,7 +125,7 @@ fn load_on(t: TaskSet, placement: &[u8], core: u8) -> u32
 // Number 11.
 fn load_test(t: TaskSet, placement: &[u8], core: u8) -> Outcome
     requires { ⌜ Checked t ⌝ }
-    ensures { λ r. ⌜ r ≡ loadTest t (now (placement .entry)) core ⌝ }
+    ensures { λ r. ⌜ r ≡ loadTest (t .fields) (now (placement .entry)) core ⌝ }
 {
     let load = load_on(t, placement, core);
     refusal::refuse_if(t.hyperperiod < load, Cause::Overload)
@@ -142,7 +134,7 @@ fn load_test(t: TaskSet, placement: &[u8], core: u8) -> Outcome
 // Numbers 9, 16, 10 and 11.
 fn placing_tests(t: TaskSet, placement: &[u8], core: u8) -> Outcome
     requires { ⌜ Checked t ⌝ }
-    ensures { λ r. ⌜ r ≡ placingOutcome t (now (placement .entry)) core ⌝ }
+    ensures { λ r. ⌜ r ≡ placingOutcome (t .fields) (now (placement .entry)) core ⌝ }
 {
     let f = t.fields;
     let places = places_test(f, placement);
@@ -205,7 +197,7 @@ fn refused(cause: Cause) -> Started
 // The fresh record of a checked task set, or the first cause of refusal.
 pub fn start(t: TaskSet, placement: &[u8], core: u8) -> Started
     requires { ⌜ Checked t ⌝ }
-    ensures { λ r. ⌜ r ≡ startBy (now (placement .entry)) core (placingOutcome t (now (placement .entry)) core) (t .fields) ⌝ }
+    ensures { λ r. ⌜ r ≡ startBy (now (placement .entry)) core (placingOutcome (t .fields) (now (placement .entry)) core) (t .fields) ⌝ }
 {
     let outcome = placing_tests(t, placement, core);
     match outcome {

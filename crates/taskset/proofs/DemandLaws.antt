@@ -122,3 +122,12 @@ unfolding taskSetOf
 demands-small c k h =
     rw (ap (λ (x : TaskSet). x .demands) (c .is))
     (le-trans (taskSet-exact (c .within) .range k h .1) (c .within .multiple))
+
+-- a checked task set holds the hyperperiod and the demands of its fields
+pub hyperperiod-held : {t : TaskSet} → Checked t → t .hyperperiod ≡ hyperperiodOf (t .fields)
+unfolding taskSetOf
+hyperperiod-held c = ap (λ (x : TaskSet). x .hyperperiod) (c .is)
+
+pub demand-held : {t : TaskSet} → Checked t → (k : ℕ) → k < t .fields .n → entry (t .demands) k ≡ demandOf (t .fields) k
+unfolding taskSetOf
+demand-held {t} c k h = ap (λ (x : TaskSet). entry (x .demands) k) (c .is) ∙ getD-row 0 (t .fields .n) (demandOf (t .fields)) k h (c .within .sizes .tasks .1)

@@ -31,7 +31,7 @@ use Rattle.newform.specs.Form.{newFields, newBytes, NewForm}
 use Rattle.newform.specs.Limits.{ValidNew, newOutcome, new}
 use Rattle.newform.proofs.BackLaws.{new-long, new-form, new-read-back, new-write-back, cut-read}
 use Rattle.newform.proofs.NewLaws.{new-sound}
-use Rattle.transfer.specs.Lent.{transferBy, outputBy, transferAfter, outputAfter, transferOf, outputOf}
+use Rattle.transfer.specs.Lent.{transferBy, exitBy, transferAfter, exitAfter, transferOf, exitOf}
 use Rattle.transfer.specs.Tables.{counted, written, fillingTest, otherFilling, returned}
 use Rattle.transfer.specs.Promise.{Stores, storedIn, ReadBack, Unread, Yields, MovedOn, MovedBack}
 use Rattle.transfer.specs.declared.Transfer.{Transfer}
@@ -57,11 +57,11 @@ module _ (cause : Cause) (z : placeOf cause ≡ 0) {bytes : Fields → List ℕ}
     pub call-answer : (room : ℕ) {r : Transfer} → r ≡ transferAfter cause (g .outcome) (bytes (g .tasks .fields)) room → r ≡ transferOf cause bytes t room
     call-answer room h = h ∙ transfer-same cause (read-outcome t c) bytes-same room
 
-    pub call-output : (out : List ℕ) {after : List ℕ} → after ≡ outputAfter cause (g .outcome) (bytes (g .tasks .fields)) out → after ≡ outputOf cause bytes t out
+    pub call-output : (out : List ℕ) {after : List ℕ} → after ≡ exitAfter cause (g .outcome) (bytes (g .tasks .fields)) out → after ≡ exitOf cause bytes t out
     call-output out h = h ∙ output-same cause (read-outcome t c) bytes-same out
 
   -- what its answer and output promise
-  module _ (out : List ℕ) {after : List ℕ} {r : Transfer} (e : r ≡ transferOf cause bytes t (length out)) (g : after ≡ outputOf cause bytes t out) where
+  module _ (out : List ℕ) {after : List ℕ} {r : Transfer} (e : r ≡ transferOf cause bytes t (length out)) (g : after ≡ exitOf cause bytes t out) where
     pub call-decides : Decided (lent cause (numberOf cause) t size (length out)) (r .outcome)
     call-decides =
         rw (e, transfer-outcome cause (t .outcome) (bytes (t .fields)) (length out))
@@ -78,7 +78,7 @@ module _ (cause : Cause) (z : placeOf cause ≡ 0) {bytes : Fields → List ℕ}
 
 -- A call whose table is valid gives its bytes, wherever there is room.
 pub yields : (cause : Cause) (bytes : Fields → List ℕ) {t : Table} → Sound t → t .Valid → (s : List ℕ) → bytes (t .fields) ≡ s → Yields cause bytes t s
-unfolding transferAfter transferBy outputAfter outputBy byOutcome refuseIf _then_
+unfolding transferAfter transferBy exitAfter exitBy byOutcome refuseIf _then_
 yields cause bytes sound v s e =
     let q = table-accepts sound .1 v in
     record {
@@ -127,7 +127,7 @@ module _ (f : Fields) where
     unfolding new
     back-reading = valid-reading (new-sound (newBytes f)) back-valid ∙ ap acceptedReading back-fields
 
-  module _ (out : List ℕ) {after : List ℕ} {r : Transfer} (e : r ≡ transferOf Buffer newBytes (written f) (length out)) (g : after ≡ outputOf Buffer newBytes (written f) out) where
+  module _ (out : List ℕ) {after : List ℕ} {r : Transfer} (e : r ≡ transferOf Buffer newBytes (written f) (length out)) (g : after ≡ exitOf Buffer newBytes (written f) out) where
     pub write-back : ReadBack f r after
     unfolding written newBytes
     write-back q = rw (call-stored Buffer refl writing out e g q) (back-reading (call-valid Buffer refl writing out e g q))
@@ -225,7 +225,7 @@ pub moving : (s : List ℕ) → Storable newBytes (NewForm (alone s .fields)) (4
 unfolding alone besideFields
 moving s = record { sound = alone-sound s; long = λ v. new-long (aloneFields s) (v .fields); form = λ v. new-form (aloneFields s) (v .fields) }
 
-pub moved-on : (s out : List ℕ) {after : List ℕ} {r : Transfer} → r ≡ transferOf Buffer newBytes (alone s) (length out) → after ≡ outputOf Buffer newBytes (alone s) out
+pub moved-on : (s out : List ℕ) {after : List ℕ} {r : Transfer} → r ≡ transferOf Buffer newBytes (alone s) (length out) → after ≡ exitOf Buffer newBytes (alone s) out
     → Bytes s → MovedOn s r after
 unfolding alone
 moved-on s out e g small = record {
@@ -233,7 +233,7 @@ moved-on s out e g small = record {
   returns = λ q. rw (call-stored Buffer refl (moving s) out e g q) (there-and-back s (call-valid Buffer refl (moving s) out e g q) small);
 }
 
-pub moved-back : (s out : List ℕ) {after : List ℕ} {r : Transfer} → r ≡ transferOf Buffer oldBytes (returned s) (length out) → after ≡ outputOf Buffer oldBytes (returned s) out
+pub moved-back : (s out : List ℕ) {after : List ℕ} {r : Transfer} → r ≡ transferOf Buffer oldBytes (returned s) (length out) → after ≡ exitOf Buffer oldBytes (returned s) out
     → Bytes s → MovedBack s r after
 unfolding returned new
 moved-back s out e g small = record {

@@ -21,7 +21,7 @@ use Rattle.refusal.proofs.CauseLaws.{number-range}
 use Rattle.taskset.specs.Limits.{Within, Reads}
 use Rattle.taskset.specs.declared.Fields.{Fields}
 use Rattle.taskset.specs.declared.Reading.{Reading}
-use Rattle.transfer.specs.Lent.{transferBy, outputBy, transferAfter, outputAfter}
+use Rattle.transfer.specs.Lent.{transferBy, exitBy, transferAfter, exitAfter}
 use Rattle.transfer.specs.Promise.{Stores, storedIn}
 use Rattle.transfer.specs.declared.Transfer.{Transfer}
 
@@ -52,13 +52,13 @@ module _ (cause : Cause) (bytes : Fields → List ℕ) (size : ℕ → ℕ) (lon
   store-ready q = (s .checked (accepted-before q) .within, room-there cause (size (f .n)) (length out) (then-accepted (g .outcome) _ (sym p ∙ q) .1))
 
   pub store-refused : {c : Cause} {r : Transfer} → o ≡ Refused c → r ≡ transferBy o (size (f .n))
-      → (r ≡ transferAfter cause (g .outcome) (bytes f) (length out)) × (out ≡ outputAfter cause (g .outcome) (bytes f) out)
-  unfolding transferAfter outputAfter transferBy outputBy byOutcome
+      → (r ≡ transferAfter cause (g .outcome) (bytes f) (length out)) × (out ≡ exitAfter cause (g .outcome) (bytes f) out)
+  unfolding transferAfter exitAfter transferBy exitBy byOutcome
   store-refused {c} q e = (e ∙ rw (← same-outcome, q), rw (← same-outcome, q))
 
   pub store-accepted : {r : Transfer} {after : List ℕ} → o ≡ Accepted → r ≡ transferBy o (size (f .n)) → after ≡ bytes f ++ drop (length (bytes f)) out
-      → (r ≡ transferAfter cause (g .outcome) (bytes f) (length out)) × (after ≡ outputAfter cause (g .outcome) (bytes f) out)
-  unfolding transferAfter outputAfter transferBy outputBy byOutcome
+      → (r ≡ transferAfter cause (g .outcome) (bytes f) (length out)) × (after ≡ exitAfter cause (g .outcome) (bytes f) out)
+  unfolding transferAfter exitAfter transferBy exitBy byOutcome
   store-accepted q e w = (e ∙ rw (← same-outcome, q, long-accepted (accepted-before q)), w ∙ rw (← same-outcome, q))
 
   pub store-same : {after : List ℕ} → o ≡ Accepted → after ≡ bytes f ++ drop (length (bytes f)) out → length after ≡ length out
@@ -77,8 +77,8 @@ module _ (cause : Cause) {o p : Outcome} (e : o ≡ p) {b d : List ℕ} (h : p �
       (λ q. rw (then-refused p (roomTest cause (length b) room) (q .0) (q .1), then-refused p (roomTest cause (length d) room) (q .0) (q .1)))
       (outcome-cases p))
 
-  pub output-same : (out : List ℕ) → outputAfter cause o b out ≡ outputAfter cause p d out
-  unfolding outputAfter outputBy byOutcome
+  pub output-same : (out : List ℕ) → exitAfter cause o b out ≡ exitAfter cause p d out
+  unfolding exitAfter exitBy byOutcome
   output-same out =
       rw e
       (⊎-elim
@@ -103,7 +103,7 @@ stored-tested cause z before bytes size room t long = join-after t (λ n. rw (lo
 -- What an answer and an output of the definitions promise.
 module _ (cause : Cause) (Form : List ℕ → Type 0) (size : ℕ) (before : Outcome) (bytes out : List ℕ)
     (long : before ≡ Accepted → length bytes ≡ size) (form : before ≡ Accepted → (behind : List ℕ) → Form (bytes ++ behind))
-    {r : Transfer} {after : List ℕ} (e : r ≡ transferAfter cause before bytes (length out)) (g : after ≡ outputAfter cause before bytes out) where
+    {r : Transfer} {after : List ℕ} (e : r ≡ transferAfter cause before bytes (length out)) (g : after ≡ exitAfter cause before bytes out) where
   abbrev all : Outcome
   all = before then roomTest cause (length bytes) (length out)
 
@@ -126,7 +126,7 @@ module _ (cause : Cause) (Form : List ℕ → Type 0) (size : ℕ) (before : Out
     length-is = ap (λ x. x .length) e ∙ rw accepted
 
     after-is : after ≡ bytes ++ drop (length bytes) out
-    unfolding outputAfter outputBy byOutcome
+    unfolding exitAfter exitBy byOutcome
     after-is = g ∙ rw accepted
 
     pub stored-is : storedIn r after ≡ bytes
@@ -142,7 +142,7 @@ module _ (cause : Cause) (Form : List ℕ → Type 0) (size : ℕ) (before : Out
     length-none = ap (λ x. x .length) e ∙ rw (refused-by .1)
 
     after-same : after ≡ out
-    unfolding outputAfter outputBy byOutcome
+    unfolding exitAfter exitBy byOutcome
     after-same = g ∙ rw (refused-by .1)
 
   pub stored-keeps : Stores Form size out r after
@@ -158,4 +158,3 @@ module _ (cause : Cause) (Form : List ℕ → Type 0) (size : ℕ) (before : Out
         (λ q. ap length (after-same (λ z. omega (arith, number-range (q .0), ap numberIn (outcome-is ∙ q .1), z))))
         (outcome-cases all);
   }
-

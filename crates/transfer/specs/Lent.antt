@@ -16,20 +16,20 @@ unfoldable pub transferBy : Outcome → ℕ → Transfer
 transferBy = byOutcome (λ cause. record { outcome = Refused cause; length = 0 }) (λ size. record { outcome = Accepted; length = size })
 
 -- every byte of the output by the outcome of all tests: as it was, or what is stored in front of what stands behind it
-unfoldable pub outputBy : List ℕ → Outcome → List ℕ → List ℕ
-outputBy out = byOutcome (λ cause. out) (λ bytes. bytes ++ drop (length bytes) out)
+unfoldable pub exitBy : List ℕ → Outcome → List ℕ → List ℕ
+exitBy out = byOutcome (λ cause. out) (λ bytes. bytes ++ drop (length bytes) out)
 
 -- the answer after tests, for an output of this length; the room is tested last
 unfoldable pub transferAfter : Cause → Outcome → List ℕ → ℕ → Transfer
 transferAfter cause before bytes room = transferBy (before then roomTest cause (length bytes) room) (length bytes)
 
 -- every byte of the output at exit
-unfoldable pub outputAfter : Cause → Outcome → List ℕ → List ℕ → List ℕ
-outputAfter cause before bytes out = outputBy out (before then roomTest cause (length bytes) (length out)) bytes
+unfoldable pub exitAfter : Cause → Outcome → List ℕ → List ℕ → List ℕ
+exitAfter cause before bytes out = exitBy out (before then roomTest cause (length bytes) (length out)) bytes
 
 -- the answer and the output of a call that stores a table's fields as these bytes
 abbrev pub transferOf : Cause → (Fields → List ℕ) → Table → ℕ → Transfer
 transferOf cause bytes t room = transferAfter cause (t .outcome) (bytes (t .fields)) room
 
-abbrev pub outputOf : Cause → (Fields → List ℕ) → Table → List ℕ → List ℕ
-outputOf cause bytes t out = outputAfter cause (t .outcome) (bytes (t .fields)) out
+abbrev pub exitOf : Cause → (Fields → List ℕ) → Table → List ℕ → List ℕ
+exitOf cause bytes t out = exitAfter cause (t .outcome) (bytes (t .fields)) out

@@ -16,7 +16,7 @@ use Rattle.oldform.specs.Form.{oldBytes}
 use Rattle.oldform.specs.Limits.{alone}
 use Rattle.newform.specs.Form.{newBytes}
 use Rattle.newform.specs.Limits.{new}
-use Rattle.transfer.specs.Lent.{transferOf, outputOf}
+use Rattle.transfer.specs.Lent.{transferOf, exitOf}
 use Rattle.transfer.specs.Tables.{written, returned}
 use Rattle.transfer.specs.declared.Transfer.{Transfer}
 
@@ -39,7 +39,7 @@ storedIn r after = take (r .length) after
 -- A call that stores a table's fields as these bytes gives exactly s, wherever there is room for it.
 pub record Yields (cause : Cause) (bytes : Fields → List ℕ) (t : Table) (s : List ℕ) : Type 0 where
   pub answers : (room : ℕ) → length s ≤ room → transferOf cause bytes t room ≡ record { outcome = Accepted; length = length s }
-  pub outputs : (out : List ℕ) → length s ≤ length out → outputOf cause bytes t out ≡ s ++ drop (length s) out
+  pub outputs : (out : List ℕ) → length s ≤ length out → exitOf cause bytes t out ≡ s ++ drop (length s) out
 
 -- What the writer was given is read back from what it wrote, cut at n.
 abbrev pub ReadBack : Fields → Transfer → List ℕ → Type 0
@@ -47,7 +47,7 @@ ReadBack f r after = r .outcome ≡ Accepted → readingOf (new (storedIn r afte
 
 -- It reads no entry beyond n: fields that are equal up to n give the same answer and output.
 abbrev pub Unread : Fields → List ℕ → Transfer → List ℕ → Type 0
-Unread f out r after = (g : Fields) → Alike f g → (transferOf Buffer newBytes (written g) (length out) ≡ r) × (outputOf Buffer newBytes (written g) out ≡ after)
+Unread f out r after = (g : Fields) → Alike f g → (transferOf Buffer newBytes (written g) (length out) ≡ r) × (exitOf Buffer newBytes (written g) out ≡ after)
 
 -- A table that was moved to the new form reads as it did, so every call on task sets says the same of both; moved back it is the same bytes.
 pub record MovedOn (s : List ℕ) (r : Transfer) (after : List ℕ) : Type 0 where

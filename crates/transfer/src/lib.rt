@@ -12,7 +12,7 @@ ghost use Rattle.oldform.specs.Form.{oldBytes, OldForm};
 ghost use Rattle.oldform.specs.Limits.{alone};
 ghost use Rattle.newform.specs.Form.{newBytes, NewForm};
 ghost use Rattle.newform.specs.Limits.{new};
-ghost use Rattle.transfer.specs.Lent.{transferBy, transferAfter, outputAfter, transferOf, outputOf};
+ghost use Rattle.transfer.specs.Lent.{transferBy, transferAfter, exitAfter, transferOf, exitOf};
 ghost use Rattle.transfer.specs.Tables.{counted as countedFields, written, otherByte, fillingTest, returned};
 ghost use Rattle.transfer.specs.Promise.{Stores, ReadBack, Unread, MovedOn, MovedBack};
 use refusal::Cause;
@@ -86,7 +86,7 @@ fn answer(outcome: Outcome, size: usize) -> Transfer
 fn store_new(reading: Reading, out: &mut [u8]) -> Transfer
     requires { ⌜ Reads reading ⌝ }
     ensures answer { λ r. ⌜ r ≡ transferAfter Buffer (reading .outcome) (newBytes (reading .tasks .fields)) (length (now (out .entry))) ⌝ }
-    ensures output { λ r. ⌜ now (out .exit) ≡ outputAfter Buffer (reading .outcome) (newBytes (reading .tasks .fields)) (now (out .entry)) ⌝ }
+    ensures output { λ r. ⌜ now (out .exit) ≡ exitAfter Buffer (reading .outcome) (newBytes (reading .tasks .fields)) (now (out .entry)) ⌝ }
 {
     let before = reading.outcome;
     let size = 4 + 9 * reading.tasks.fields.n;
@@ -104,7 +104,7 @@ fn store_new(reading: Reading, out: &mut [u8]) -> Transfer
 fn store_old(reading: Reading, out: &mut [u8]) -> Transfer
     requires { ⌜ Reads reading ⌝ }
     ensures answer { λ r. ⌜ r ≡ transferAfter Buffer (reading .outcome) (oldBytes (reading .tasks .fields)) (length (now (out .entry))) ⌝ }
-    ensures output { λ r. ⌜ now (out .exit) ≡ outputAfter Buffer (reading .outcome) (oldBytes (reading .tasks .fields)) (now (out .entry)) ⌝ }
+    ensures output { λ r. ⌜ now (out .exit) ≡ exitAfter Buffer (reading .outcome) (oldBytes (reading .tasks .fields)) (now (out .entry)) ⌝ }
 {
     let before = reading.outcome;
     let size = 2 + 8 * reading.tasks.fields.n;
@@ -171,7 +171,7 @@ fn filling_test(f: Fields) -> Outcome
 // Writes fields to an output in the new form, if they are within the limits. Entries beyond n are not read.
 pub fn write_new(f: Fields, out: &mut [u8]) -> Transfer
     ensures answer { λ r. ⌜ r ≡ transferOf Buffer newBytes (written f) (length (now (out .entry))) ⌝ }
-    ensures output { λ r. ⌜ now (out .exit) ≡ outputOf Buffer newBytes (written f) (now (out .entry)) ⌝ }
+    ensures output { λ r. ⌜ now (out .exit) ≡ exitOf Buffer newBytes (written f) (now (out .entry)) ⌝ }
     ensures decides { λ r. ⌜ Decided (lent Buffer 8 (written f) (4 + 9 * f .n) (length (now (out .entry)))) (r .outcome) ⌝ }
     ensures stores { λ r. ⌜ Stores (NewForm f) (4 + 9 * f .n) (now (out .entry)) r (now (out .exit)) ⌝ }
     ensures back { λ r. ⌜ ReadBack f r (now (out .exit)) ⌝ }
@@ -184,7 +184,7 @@ pub fn write_new(f: Fields, out: &mut [u8]) -> Transfer
 // Moves a table of the old form to an output in the new form: the charge is 0, and each task may use every core.
 pub fn to_new(table: &[u8], out: &mut [u8]) -> Transfer
     ensures answer { λ r. ⌜ r ≡ transferOf Buffer newBytes (alone (now (table .entry))) (length (now (out .entry))) ⌝ }
-    ensures output { λ r. ⌜ now (out .exit) ≡ outputOf Buffer newBytes (alone (now (table .entry))) (now (out .entry)) ⌝ }
+    ensures output { λ r. ⌜ now (out .exit) ≡ exitOf Buffer newBytes (alone (now (table .entry))) (now (out .entry)) ⌝ }
     ensures decides { λ r. ⌜ Decided (lent Buffer 8 (alone (now (table .entry))) (4 + 9 * getD (now (table .entry)) 0 0) (length (now (out .entry)))) (r .outcome) ⌝ }
     ensures stores { λ r. ⌜ Stores (NewForm (alone (now (table .entry)) .fields)) (4 + 9 * getD (now (table .entry)) 0 0) (now (out .entry)) r (now (out .exit)) ⌝ }
     ensures moved { λ r. ⌜ MovedOn (now (table .entry)) r (now (out .exit)) ⌝ }
@@ -196,7 +196,7 @@ pub fn to_new(table: &[u8], out: &mut [u8]) -> Transfer
 // Moves a table of the new form with exactly those fillings back to the old form.
 pub fn to_old(table: &[u8], out: &mut [u8]) -> Transfer
     ensures answer { λ r. ⌜ r ≡ transferOf Buffer oldBytes (returned (now (table .entry))) (length (now (out .entry))) ⌝ }
-    ensures output { λ r. ⌜ now (out .exit) ≡ outputOf Buffer oldBytes (returned (now (table .entry))) (now (out .entry)) ⌝ }
+    ensures output { λ r. ⌜ now (out .exit) ≡ exitOf Buffer oldBytes (returned (now (table .entry))) (now (out .entry)) ⌝ }
     ensures decides { λ r. ⌜ Decided (lent Buffer 8 (returned (now (table .entry))) (2 + 8 * getD (now (table .entry)) 1 0) (length (now (out .entry)))) (r .outcome) ⌝ }
     ensures stores { λ r. ⌜ Stores (OldForm (new (now (table .entry)) .fields)) (2 + 8 * getD (now (table .entry)) 1 0) (now (out .entry)) r (now (out .exit)) ⌝ }
     ensures moved { λ r. ⌜ MovedBack (now (table .entry)) r (now (out .exit)) ⌝ }

@@ -33,4 +33,4 @@ first-fit-spec =
     with-more-requires
     (λ c. omega (arith, core-small _ _ _ _ _ (c .before .before .before .loop .inv) (c .before .before .loop-test .taken) (c .before .lowest-core .ensures)))
     (λ c κs. search needs) (λ c κs. search needs) add-rejected (λ c. search needs)
-    (λ c. search needs) (λ c. search (needs, fit-next)) (λ c. search (needs, fit-done)))
+    (λ c. search needs) (λ c. search (needs, fit-next)) (λ c. omega (arith, c .before .loop .inv .ranges .few)) (λ c. search (needs, fit-done)))

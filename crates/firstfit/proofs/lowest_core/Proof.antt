@@ -1,7 +1,7 @@
 -- A search for the first core with room.
 use Prim.Native.Nat.{_-_}
 use Rattle.numbers.proofs.FirstLaws.{Seeking, seek-start, seek-none, looked-on, looked-found}
-use Rattle.firstfit.specs.Fitted.{holds}
+use Rattle.firstfit.specs.Fit.{holds}
 use borrow.Author.Needs.{needs}
 use Rattle.firstfit.proofs.lowest_core.Statement.{statement}
 use Rattle.firstfit.proofs.lowest_core.Tie as tie

@@ -14,9 +14,9 @@ first-fit-requires c κs =
 
 returns : tie.Need-returns
 returns c =
-    let fitted = c .before .before in
-    let prepared = fitted .before .before .before in
-    quick-is (prepared .before .before .pre) (prepared .prepare .ensures) (fitted .first-fit .ensures) (c .in-table-order .ensures)
+    let found = c .before .before in
+    let prepared = found .before .before .before in
+    quick-is (prepared .before .before .pre) (prepared .prepare .ensures) (found .first-fit .ensures) (c .in-table-order .ensures)
 
 pub quick-tasks-spec : {M : Type 1} → statement M
 quick-tasks-spec = tie.close (tie.spec (λ c κs. search needs) (λ c κs. (c .before .pre, c .planning-order .ensures .0)) first-fit-requires (λ c κs. search needs) returns)
