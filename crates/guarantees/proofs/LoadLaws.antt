@@ -1,10 +1,11 @@
 -- The loads of the planner and of a fresh core are the sum of the demands of the tasks on the core.
 use Prim.Native.Nat.{ℕ, _≤_}
-use mathlib.Core.Path.{_≡_, sym, _∙_, ap}
+use mathlib.Core.Path.{_≡_, _∙_, ap}
 use mathlib.Core.Bool.{cond}
 use mathlib.Core.List.{List}
 use lib.Dec.{eqb}
 use lib.ListN.{length}
+use native.Mathlib.Omega.{arith}
 use Rattle.numbers.specs.Loads.{demandOn}
 use Rattle.numbers.specs.Rows.{tab, entry}
 use Rattle.numbers.specs.Sums.{sumTo}
@@ -22,8 +23,8 @@ module _ (f : Fields) (placement : List ℕ) (core : ℕ) (long : length placeme
   unfolding share
   planned-load =
       let ws = tab (f .n) (demandOf f) in
-      demand-listed core ws placement (long ∙ sym (length-tab 0 (f .n) (demandOf f)))
-      ∙ ap (sumTo (share core ws placement)) (length-tab 0 (f .n) (demandOf f))
+      demand-listed core ws placement (omega (arith, long, length-tab 0 (f .n) (demandOf f)))
+      ∙ ap (sumTo (share core ws placement)) long
       ∙ sumTo-cong (share core ws placement) _ (f .n) (λ k h. ap (λ x. cond (eqb (entry placement k) core) x 0) (getD-tab 0 (f .n) (demandOf f) k h))
 
   pub started-load : f .n ≤ 16 → loadOf (taskSetOf f) placement core ≡ exactLoad f placement core

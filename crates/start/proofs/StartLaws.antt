@@ -121,7 +121,7 @@ module _ {t : Table} (sound : Sound t) (placement : List ℕ) (core : ℕ) where
         let n = t .fields .n in
         let ws = take n (tasks .demands) in
         let long : length ws ≡ n = length-take-le n (tasks .demands) (rw (length-row 0 n (demandOf (t .fields))) (w .sizes .tasks .1)) in
-        let s : demandOn core ws placement ≡ sumTo (share core ws placement) n = rw long at (demand-listed core ws placement (p .exact ∙ sym long)) in
+        let s : demandOn core ws placement ≡ sumTo (share core ws placement) n = rw (p .exact) at (demand-listed core ws placement (omega (arith, p .exact, long))) in
         let same : sumTo (share core ws placement) n ≡ sumTo (λ k. cond (eqb (entry placement k) core) (entry (tasks .demands) k) 0) n =
         sumTo-cong _ _ n (λ k h. ap (λ (d : ℕ). cond (eqb (entry placement k) core) d 0) (getD-take n (tasks .demands) k 0 h)) in
         rw (← same, ← s) (p .fits)
