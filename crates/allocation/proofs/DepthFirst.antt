@@ -10,10 +10,10 @@ use lib.Dec.{eqb}
 use lib.ListN.{length, getD, length-append}
 use lib.Seq.{append-snoc}
 use borrow.Author.Tests.{eq-eqb, ne-eqb, eqb-true}
-use Rattle.allocation.specs.Placement.{Problem, rejected, total}
+use Rattle.allocation.specs.Placement.{Problem, rejected}
 use Rattle.allocation.specs.Best.{Earlier, core-core, core-none, Before, here, there}
 use Rattle.allocation.specs.Walk.{Step, inner, leaf, stepInto, boundAfter, entered, tryAll, visit, choices, upFrom, trace}
-use Rattle.allocation.specs.EntryRule.{Enters, allDemands, demandsWith}
+use Rattle.allocation.specs.EntryRule.{Enters, allDemands}
 use Rattle.allocation.specs.DepthFirst.{Sooner, Among, incumbentFrom, incumbent, MayFollow, Next, Follow, DepthFirst}
 use Rattle.allocation.proofs.Demands.{total-all, load-with}
 use Rattle.allocation.proofs.Order.{earlier-ne, before-asym, before-at}

@@ -10,7 +10,7 @@ use lib.ListN.{length}
 use Rattle.allocation.specs.Placement.{Problem}
 use Rattle.allocation.specs.Best.{Before}
 use Rattle.allocation.specs.EntryRule.{Enters, allDemands, demandsWith}
-use Rattle.allocation.specs.Walk.{Step, inner, leaf, trace}
+use Rattle.allocation.specs.Walk.{inner, leaf, trace}
 
 -- depth first: a step comes before those that go on from it, and before those with a later choice where the two first differ
 abbrev pub Sooner : List ℕ → List ℕ → Type 0

@@ -7,7 +7,7 @@ use mathlib.Core.List.{List, [], _∷_, _++_}
 use native.Mathlib.Omega.{arith}
 use native.Mathlib.Numerals.{add-one}
 use lib.Dec.{eqb}
-use lib.ListN.{length, getD, take, set, length-set, List·getD-eq-default}
+use lib.ListN.{length, getD, take, set, length-set}
 use lib.Seq.{length-take-le, take-all, take-suc, getD-set-same, getD-set-other, set-getD, ext-getD}
 use Rattle.numbers.proofs.BoolLaws.{cond-both}
 use Rattle.numbers.proofs.FirstLaws.{first-clear}
