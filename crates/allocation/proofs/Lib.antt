@@ -6,6 +6,7 @@ pub mod Complete
 pub mod Optimal
 pub mod EmptyCores
 pub mod EntryRule
+pub mod DepthFirst
 pub mod Ceiling
 pub mod Remaining
 pub mod Progress

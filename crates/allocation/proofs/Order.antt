@@ -16,7 +16,7 @@ use Rattle.allocation.specs.Best.{Earlier, core-core, core-none, Before,
 use Rattle.allocation.specs.TableOrder.{BestPlan}
 use Rattle.allocation.specs.Walk.{upFrom, choices, triedBy}
 
-earlier-ne : {c d : ℕ} → Earlier c d → c ≡ d → ⊥
+pub earlier-ne : {c d : ℕ} → Earlier c d → c ≡ d → ⊥
 earlier-ne (core-core h l) q = omega arith
 earlier-ne (core-none h) q = omega arith
 

@@ -3,6 +3,7 @@ pub mod Best
 pub mod Rule
 pub mod Walk
 pub mod EntryRule
+pub mod DepthFirst
 pub mod TableOrder
 pub mod Guarantee
 pub mod FirstFit

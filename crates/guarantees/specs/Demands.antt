@@ -111,8 +111,9 @@ pub record QuickDemand (t : Table) : Type 0 where
 
 -- The step ceiling, and the walk that it is for.
 pub record CeilingDemand (t : Table) : Type 0 where
-  -- A choice is entered by the walk exactly if the task permits its core, whose load stays at most one, it may still improve on the
-  -- stored placement, and it is not on an empty core while a lower-numbered twin is empty too.
+  -- The walk is depth first over the tasks in the stated order. Its next step is always the first choice ahead that keeps the entry rule: the
+  -- task permits the core, whose load stays at most one, what is left out and the excess are below the mark to beat, and no lower-numbered
+  -- twin is empty if the core is. No other list of steps is so.
   pub walk : t .Valid → WalkRule (t .fields)
   -- The ceiling is the sum, over k from 1 to n, of the product over j from 1 to k of the factor for j: the smaller of j and m, plus 1,
   -- where every core is permitted, and otherwise how many cores the jth task in planning order permits, plus 1.

@@ -90,18 +90,24 @@ unfolding demandOn sumOver
 none-rejects [] = refl
 none-rejects (w ∷ ws) = ap (λ (x : ℕ). w + x) (none-rejects ws)
 
--- ---- the demand on a choice as a sum over tasks
+-- ---- all the demand, and that on a choice, as sums over tasks
+
+pub sum-listed : (ws : List ℕ) → sum ws ≡ sumTo (λ k. getD ws k 0) (length ws)
+unfolding sumOver sumTo
+sum-listed [] = refl
+sum-listed (w ∷ ws) = ap (λ (s : ℕ). w + s) (sum-listed ws) ∙ sym (sumTo-front (λ k. getD (w ∷ ws) k 0) (length ws))
 
 -- what task t adds to the demand on c
 unfoldable pub share : ℕ → List ℕ → List ℕ → ℕ → ℕ
 share c ws q t = cond (eqb (getD q t 0) c) (getD ws t 0) 0
 
-pub demand-listed : (c : ℕ) (ws q : List ℕ) → length q ≡ length ws → demandOn c ws q ≡ sumTo (share c ws q) (length ws)
+pub demand-listed : (c : ℕ) (ws p : List ℕ) → length p ≤ length ws → demandOn c ws p ≡ sumTo (share c ws p) (length p)
 unfolding demandOn sumTo share
-demand-listed c [] q e = refl
-demand-listed c (w ∷ ws) [] e = absurd (omega arith)
-demand-listed c (w ∷ ws) (x ∷ q) e =
-    ap (λ (s : ℕ). cond (eqb x c) w 0 + s) (demand-listed c ws q (omega arith)) ∙ sym (sumTo-front (share c (w ∷ ws) (x ∷ q)) (length ws))
+demand-listed c [] [] h = refl
+demand-listed c [] (x ∷ p) h = absurd (omega arith)
+demand-listed c (w ∷ ws) [] h = refl
+demand-listed c (w ∷ ws) (x ∷ p) h =
+    ap (λ (s : ℕ). cond (eqb x c) w 0 + s) (demand-listed c ws p (omega arith)) ∙ sym (sumTo-front (share c (w ∷ ws) (x ∷ p)) (length p))
 
 -- ---- all the demand as a sum over choices
 

@@ -110,7 +110,7 @@ module _ (n : ℕ) (order : List ℕ) (perm : Permutation n order) where
 
   pub demandOn-gather : (c : ℕ) (ws q : List ℕ) → length ws ≡ n → length q ≡ n → demandOn c (gather order ws) (gather order q) ≡ demandOn c ws q
   demandOn-gather c ws q w e =
-      demand-gathered c order ws q ∙ permutation-sum n order perm (share c ws q) ∙ ap (sumTo (share c ws q)) (sym w) ∙ sym (demand-listed c ws q (e ∙ sym w))
+      demand-gathered c order ws q ∙ permutation-sum n order perm (share c ws q) ∙ ap (sumTo (share c ws q)) (sym e) ∙ sym (demand-listed c ws q (omega arith))
 
   pub demandOn-scatter : (c : ℕ) (ws p : List ℕ) → length ws ≡ n → length p ≡ n → demandOn c ws (scatter order p) ≡ demandOn c (gather order ws) p
   demandOn-scatter c ws p w e =

@@ -7,6 +7,9 @@ use mathlib.Core.Logic.{_⊎_, inl, inr, _↔_, _≢_}
 use lib.ListN.{length, take, replicate}
 use native.Mathlib.Omega.{arith}
 use Rattle.numbers.specs.Reorder.{scatter}
+use Rattle.numbers.specs.Rows.{entry}
+use Rattle.numbers.proofs.SortingLaws.{permutation-below}
+use Rattle.numbers.proofs.ReorderLaws.{order-long, getD-gather}
 use Rattle.refusal.specs.Causes.{numberIn}
 use Rattle.refusal.proofs.TestLaws.{by-says}
 use Rattle.refusal.proofs.ConditionLaws.{decides}
@@ -24,11 +27,11 @@ use Rattle.allocation.specs.Placement.{Feasible, Full}
 use Rattle.allocation.specs.Walk.{WalkAnswer, LastLeaf, NoLeaf}
 use Rattle.allocation.specs.TableOrder.{inPlanningOrder, tableAnswer}
 use Rattle.allocation.specs.Guarantee.{Guarantee}
-use Rattle.allocation.proofs.Reorder.{gathered-positive, twins-gather, twins-back}
-use Rattle.allocation.proofs.EntryRule.{entry-rule}
+use Rattle.allocation.proofs.Reorder.{inPlanningOrder-long, gathered-positive, twins-gather, twins-back}
+use Rattle.allocation.proofs.DepthFirst.{depth-first}
 use Rattle.allocation.proofs.Guarantee.{guaranteed}
 use Rattle.planner.specs.Plan.{verdictOf, allocationOf, planFor, refusedPlan, planBy, planOf, verdictOutcome}
-use Rattle.planner.specs.Promise.{walkOf, Promise, WalkRule, RefusedPlan, Plans}
+use Rattle.planner.specs.Promise.{walkOf, Promise, InTurn, WalkRule, RefusedPlan, Plans}
 use Rattle.planner.specs.declared.Allocation.{Allocation}
 use Rattle.planner.specs.declared.Verdict.the-variants.{All, Short, Spent}
 use Rattle.planner.proofs.PlanLaws.{plan-table}
@@ -60,9 +63,31 @@ short-is false (suc x) h = (λ e. omega arith, λ e. refl)
 -- ---- demand 2
 
 module _ (f : Fields) (w : Within f) where
+  cores-are : tableProblem f .cores ≡ f .m
+  unfolding tableProblem
+  cores-are = refl
+
+  -- the stated order lists a task of the table at each of its places
+  listed : (j : ℕ) → j < f .n → j < length (orderOf f)
+  listed j h = omega (arith, demands-long f w, order-long (length (tableProblem f .demands)) (orderOf f) (order-permutation f w))
+
+  in-turn : InTurn f
+  in-turn = record {
+    cores = cores-are;
+    capacity = refl;
+    tasks = inPlanningOrder-long (tableProblem f) (orderOf f) (order-permutation f w) ∙ demands-long f w;
+    demand = λ j h. getD-gather (orderOf f) (tableProblem f .demands) j (listed j h);
+    permitted = λ j core h.
+        rw (
+          getD-gather (orderOf f) (tableProblem f .affinity) j (listed j h),
+          byte-at f w (entry (orderOf f) j) (permutation-below (f .n) (orderOf f) (stated-order f w .1) j (listed j h)),
+        ) refl;
+  }
+
   pub walk-rule : WalkRule f
   walk-rule = record {
-    enters = entry-rule (inPlanningOrder (tableProblem f) (orderOf f))
+    over = in-turn;
+    steps = depth-first (inPlanningOrder (tableProblem f) (orderOf f))
         (gathered-positive (tableProblem f) (orderOf f) (order-permutation f w) (positive f w));
     twins = λ c d. (
       λ t k h. rw ((byte-at f w) k h) at (twins-back (tableProblem f) (orderOf f) (order-permutation f w) c d t k (rw (demands-long f w) h)),

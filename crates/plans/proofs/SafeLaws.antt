@@ -56,8 +56,8 @@ module _ (f : Fields) (w : Within f) where
   unfolding tableProblem loadOn share
   planned-load p core long =
       let ws = tab (f .n) (demandOf f) in
-      demand-listed core ws p (long ∙ sym (length-tab 0 (f .n) (demandOf f)))
-      ∙ ap (sumTo (share core ws p)) (length-tab 0 (f .n) (demandOf f))
+      demand-listed core ws p (omega (arith, length-tab 0 (f .n) (demandOf f)))
+      ∙ ap (sumTo (share core ws p)) long
       ∙ sumTo-cong (share core ws p) _ (f .n) (λ k h. ap (λ x. cond (eqb (entry p k) core) x 0) (getD-tab 0 (f .n) (demandOf f) k h))
 
   pub exact-demands : ExactDemands f

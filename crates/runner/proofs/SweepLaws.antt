@@ -7,7 +7,7 @@ use mathlib.Core.List.{List, [], _∷_, _++_}
 use native.Mathlib.Omega.{arith}
 use native.Mathlib.Numerals.{add-one}
 use lib.Dec.{eqb}
-use lib.ListN.{length, getD, take, set, length-set, List·getD-eq-default}
+use lib.ListN.{length, getD, take, set, length-set}
 use lib.Seq.{length-take-le, take-all, take-suc, getD-set-same, getD-set-other, set-getD, ext-getD}
 use Rattle.numbers.proofs.BoolLaws.{cond-both}
 use Rattle.numbers.proofs.FirstLaws.{first-clear}
@@ -21,12 +21,21 @@ use Rattle.edf.proofs.SlotSteps.{ready-length}
 use Rattle.edf.proofs.ChoiceLaws.{ClaimOf, claim-slot}
 use Rattle.edf.proofs.NamingLaws.{chosen-names}
 use Rattle.runner.specs.Records.{ValidRecord}
-use Rattle.runner.specs.Sweep.{lateSoFar, choiceSoFar, ChoiceOf, readySoFar, AfterSlots}
+use Rattle.runner.specs.Sweep.{lateSoFar, choiceSoFar, ChoiceOf, readySoFar, AfterSlots, Passing}
 use Rattle.runner.proofs.SlotMore.{getD-any, more-before, more-here, first-more, each-more, chosen-more}
 
 -- One slot more of the pass.
-module _ {charge : ℕ} {requests : List ℕ} {slots now : List Slot} {i late : ℕ} {choice : Claim} (size : length slots ≡ 16)
-    (a : AfterSlots charge requests slots i now late choice) (h : i < 16) where
+module _ {charge : ℕ} {requests : List ℕ} {slots now : List Slot} {i to late : ℕ} {choice : Claim}
+    (past : Passing charge requests slots i to now late choice) (h : i < to) where
+  a : AfterSlots charge requests slots i now late choice
+  a = past .after
+
+  size : length slots ≡ 16
+  size = past .sixteen
+
+  here : i < 16
+  here = omega (arith, past .within)
+
   abbrev before : Slot
   before = slotAt slots i
 
@@ -37,13 +46,13 @@ module _ {charge : ℕ} {requests : List ℕ} {slots now : List Slot} {i late : 
   ready = readySoFar charge requests slots
 
   so-many : length (take i slots) ≡ i
-  so-many = length-take-le i slots (omega arith)
+  so-many = length-take-le i slots (omega (arith, size, here))
 
   so-many-ready : length (ready i) ≡ i
   so-many-ready = ready-length charge requests (take i slots) ∙ so-many
 
   slots-more : take (i + 1) slots ≡ take i slots ++ (before ∷ [])
-  slots-more = rw add-one (take-suc slots i emptySlot (omega arith))
+  slots-more = rw add-one (take-suc slots i emptySlot (omega (arith, size, here)))
 
   ready-more : ready (i + 1) ≡ ready i ++ (after ∷ [])
   unfolding releaseAll
@@ -57,35 +66,41 @@ module _ {charge : ℕ} {requests : List ℕ} {slots now : List Slot} {i late : 
 
   pass-slot : {next : List Slot} {late₁ : ℕ} {choice₁ : Claim} → next ≡ set now i (advance (suc i) after)
       → late₁ ≡ cond (eqb late 0 && isLate before) (suc i) late → choice₁ ≡ choiceSoFar choice (suc i) after
-      → AfterSlots charge requests slots (i + 1) next late₁ choice₁
+      → Passing charge requests slots (i + 1) to next late₁ choice₁
   pass-slot {next} {late₁} {choice₁} en el ec =
       let is : ChoiceOf (ready (i + 1)) choice₁ =
       rw (ready-more, ec) (chosen-more (ready i) after choice so-many-ready (a .choice-named)) in
       record {
-        late-named =
-            rw (a .late-named) at el
-            ∙ sym (ap firstLate slots-more ∙ rw so-many at (first-more (take i slots) before isLate refl (omega (arith, so-many))));
-        choice-named = is;
-        passed = λ j l. elim (split i j) [
-          | inl g ↦
-              let same : j ≡ i = omega arith in
-              rw (en, same, ready-here) (getD-set-same now i _ emptySlot (omega (arith, a .sixteen)))
-          | inr g ↦
-              rw (en, ready-before j g) (getD-set-other now i j _ emptySlot (λ e. omega arith) ∙ a .passed j g)
-        ];
-        untouched = λ j l. rw en (getD-set-other now i j _ emptySlot (λ e. omega arith)) ∙ a .untouched j (omega arith);
-        sixteen = rw en (length-set now i _ ∙ a .sixteen);
+        valid = past .valid;
+        sixteen = size;
+        upward = omega arith;
+        within = past .within;
+        after = record {
+          late-named =
+              rw (a .late-named) at el
+              ∙ sym (ap firstLate slots-more ∙ rw so-many at (first-more (take i slots) before isLate refl (omega (arith, so-many))));
+          choice-named = is;
+          passed = λ j l. elim (split i j) [
+            | inl g ↦
+                let same : j ≡ i = omega arith in
+                rw (en, same, ready-here) (getD-set-same now i _ emptySlot (omega (arith, a .sixteen)))
+            | inr g ↦
+                rw (en, ready-before j g) (getD-set-other now i j _ emptySlot (λ e. omega arith) ∙ a .passed j g)
+          ];
+          untouched = λ j l. rw en (getD-set-other now i j _ emptySlot (λ e. omega arith)) ∙ a .untouched j (omega arith);
+          sixteen = rw en (length-set now i _ ∙ a .sixteen);
+        };
       }
 
   -- the slot as it is read
   read : (d : Slot) → getD now i d ≡ before
-  read d = getD-any now i d emptySlot (omega (arith, a .sixteen)) ∙ a .untouched i (omega arith)
+  read d = getD-any now i d emptySlot (omega (arith, a .sixteen, here)) ∙ a .untouched i (omega arith)
 
   -- an empty slot stays as it is
-  pub pass-empty : ValidRecord charge slots → (d : Slot) {next : List Slot} {late₁ : ℕ} {choice₁ : Claim} → getD now i d .period ≡ 0
-      → next ≡ now → late₁ ≡ late → choice₁ ≡ choice → AfterSlots charge requests slots (i + 1) next late₁ choice₁
+  pub pass-empty : (d : Slot) {next : List Slot} {late₁ : ℕ} {choice₁ : Claim} → getD now i d .period ≡ 0
+      → next ≡ now → late₁ ≡ late → choice₁ ≡ choice → Passing charge requests slots (i + 1) to next late₁ choice₁
   unfolding release
-  pass-empty valid d z en el ec = elim (valid .slots-can-be i h) [
+  pass-empty d z en el ec = elim (past .valid .slots-can-be i here) [
     | inl e ↦
         let empty : after ≡ emptySlot = rw e refl in
         pass-slot
@@ -96,8 +111,8 @@ module _ {charge : ℕ} {requests : List ℕ} {slots now : List Slot} {i late : 
   ]
 
   -- an occupied slot has room for its budget and the charge
-  pub pass-cost : ValidRecord charge slots → (d : Slot) → getD now i d .period ≢ 0 → getD now i d .budget + charge ≤ 10000
-  pass-cost valid d p = elim (valid .slots-can-be i h) [
+  pub pass-cost : (d : Slot) → getD now i d .period ≢ 0 → getD now i d .budget + charge ≤ 10000
+  pass-cost d p = elim (past .valid .slots-can-be i here) [
     | inl e ↦ absurd (p (rw (read d, e) refl))
     | inr u ↦ rw (read d) (omega (arith, u .period-in, u .budget-in))
   ]
@@ -108,51 +123,69 @@ module _ {charge : ℕ} {requests : List ℕ} {slots now : List Slot} {i late : 
   -- an occupied slot, which is s once it is released if it is due
   module _ (d : Slot) (p : getD now i d .period ≢ 0) {s y : Slot} {next : List Slot} {late₁ : ℕ} {choice₁ : Claim}
       (en : next ≡ set now i y) (ey : y ≡ advanced s) (ec : choice₁ ≡ choiceSoFar choice (i + 1) s) where
-    pass-occupied : s ≡ after → late₁ ≡ cond (eqb late 0 && isLate before) (suc i) late → AfterSlots charge requests slots (i + 1) next late₁ choice₁
+    pass-occupied : s ≡ after → late₁ ≡ cond (eqb late 0 && isLate before) (suc i) late → Passing charge requests slots (i + 1) to next late₁ choice₁
     unfolding release
     pass-occupied es el =
         let still : 0 < after .period = cond-both (λ (t : Slot). 0 < t .period) (due before) _ _ (occupied d p) (occupied d p) in
         pass-slot (en ∙ ap (set now i) (ey ∙ ap advanced es ∙ sym (advance-occupied (suc i) after still))) el (rw (add-one, es) at ec)
 
     pub pass-due : getD now i d .until ≡ 0 → s ≡ released (getD now i d) (owedFor charge (getD now i d .budget) (getD requests i 0))
-        → late₁ ≡ lateSoFar late (i + 1) (getD now i d) → AfterSlots charge requests slots (i + 1) next late₁ choice₁
+        → late₁ ≡ lateSoFar late (i + 1) (getD now i d) → Passing charge requests slots (i + 1) to next late₁ choice₁
     unfolding release
     pass-due u es el =
         let yes : due before ≡ true = due-now before (occupied d p) (rw (read d) at u) in
         let back : suc i - 1 ≡ i = omega arith in
         pass-occupied (rw (read d) at es ∙ rw (yes, back) refl) (rw (add-one, read d) at el ∙ rw yes refl)
 
-    pub pass-kept : getD now i d .until ≢ 0 → s ≡ getD now i d → late₁ ≡ late → AfterSlots charge requests slots (i + 1) next late₁ choice₁
+    pub pass-kept : getD now i d .until ≢ 0 → s ≡ getD now i d → late₁ ≡ late → Passing charge requests slots (i + 1) to next late₁ choice₁
     unfolding release
     pass-kept u es el =
         let q : before .until ≢ 0 = rw (read d) at u in
         let no : due before ≡ false = due-later before (omega (arith, q)) in
         pass-occupied (es ∙ read d ∙ rw no refl) (el ∙ rw (no, and-false) refl)
 
--- Before the pass, and after all of it.
-pub pass-start : (charge : ℕ) (requests : List ℕ) (slots : List Slot) → length slots ≡ 16
-    → AfterSlots charge requests slots 0 slots 0 (record { task = 0; deadline = 0 })
-unfolding chosen releaseAll firstSlot slotTest
-pass-start charge requests slots size = record {
-  late-named = sym (first-clear (slotTest isLate []) 16 (λ j h. refl));
-  choice-named = record { task-named = refl; until = λ n. absurd (n refl) };
-  passed = λ j h. absurd (omega arith);
-  untouched = λ j h. refl;
-  sixteen = size;
+-- A part of the pass at slot i, where the slots up to `from` left now₀, late₀ and choice₀: what was asked with holds of some record, and what held
+-- of any record there still holds.
+pub record Still (charge : ℕ) (requests : List ℕ) (from to : ℕ) (now₀ : List Slot) (late₀ : ℕ) (choice₀ : Claim)
+    (i : ℕ) (now : List Slot) (late : ℕ) (choice : Claim) : Type 0 where
+  pub record-before : List Slot
+  pub holds : Passing charge requests record-before i to now late choice
+  pub each : (slots : List Slot) → Passing charge requests slots from to now₀ late₀ choice₀ → Passing charge requests slots i to now late choice
+
+-- one slot more keeps it if it does so for every record
+pub still-more : {charge : ℕ} {requests : List ℕ} {from to : ℕ} {now₀ : List Slot} {late₀ : ℕ} {choice₀ : Claim}
+    {i : ℕ} {now : List Slot} {late : ℕ} {choice : Claim} {next : List Slot} {late₁ : ℕ} {choice₁ : Claim}
+    → Still charge requests from to now₀ late₀ choice₀ i now late choice
+    → ((slots : List Slot) → Passing charge requests slots i to now late choice → Passing charge requests slots (i + 1) to next late₁ choice₁)
+    → Still charge requests from to now₀ late₀ choice₀ (i + 1) next late₁ choice₁
+still-more s more = record {
+  record-before = s .record-before;
+  holds = more (s .record-before) (s .holds);
+  each = λ slots p. more slots (s .each slots p);
 }
 
-module _ {charge : ℕ} {requests : List ℕ} {slots now : List Slot} {i late : ℕ} {choice : Claim} (size : length slots ≡ 16)
-    (a : AfterSlots charge requests slots i now late choice) (h : 16 ≤ i) where
-  pub pass-done : AfterSlots charge requests slots 16 now late choice
-  pass-done =
-      let all : take 16 slots ≡ take i slots = take-all 16 slots (omega arith) ∙ sym (take-all i slots (omega arith)) in
-      record {
-        late-named = rw all (a .late-named);
-        choice-named = subst (λ l. ChoiceOf (releaseAll charge requests l) choice) (sym all) (a .choice-named);
-        passed = λ j l. rw all (a .passed j (omega arith));
-        untouched = λ j l. List·getD-eq-default now emptySlot (omega (arith, a .sixteen)) ∙ sym (List·getD-eq-default slots emptySlot (omega arith));
-        sixteen = a .sixteen;
-      }
+-- Before the pass, and at the end of a part of it.
+pub pass-start : (charge : ℕ) (requests : List ℕ) (slots : List Slot) → length slots ≡ 16 → ValidRecord charge slots
+    → Passing charge requests slots 0 16 slots 0 (record { task = 0; deadline = 0 })
+unfolding chosen releaseAll firstSlot slotTest
+pass-start charge requests slots size valid = record {
+  valid = valid;
+  sixteen = size;
+  upward = omega arith;
+  within = omega arith;
+  after = record {
+    late-named = sym (first-clear (slotTest isLate []) 16 (λ j h. refl));
+    choice-named = record { task-named = refl; until = λ n. absurd (n refl) };
+    passed = λ j h. absurd (omega arith);
+    untouched = λ j h. refl;
+    sixteen = size;
+  };
+}
+
+pub pass-done : {charge : ℕ} {requests : List ℕ} {slots now : List Slot} {i to late : ℕ} {choice : Claim}
+    → Passing charge requests slots i to now late choice → to ≤ i → AfterSlots charge requests slots to now late choice
+pass-done {charge} {requests} {slots} {now} {i} {to} {late} {choice} p h =
+    subst (λ (k : ℕ). AfterSlots charge requests slots k now late choice) (omega (arith, p .upward)) (p .after)
 
 -- What the whole pass leaves.
 module _ {charge : ℕ} {requests : List ℕ} {slots now : List Slot} {late : ℕ} {choice : Claim} (size : length slots ≡ 16)

@@ -10,6 +10,7 @@ use Rattle.edf.specs.declared.Slot.{Slot}
 use Rattle.edf.specs.declared.Claim.{Claim}
 use Rattle.edf.specs.Slots.{slotAt}
 use Rattle.edf.specs.Tick.{firstLate, releaseAll, chosen, advance}
+use Rattle.runner.specs.Records.{ValidRecord}
 
 -- the late task so far with slot number k, which is released: 0 is none so far
 abbrev pub lateSoFar : ℕ → ℕ → Slot → ℕ
@@ -39,3 +40,11 @@ module _ (charge : ℕ) (requests : List ℕ) (slots : List Slot) (i : ℕ) wher
     pub passed : (j : ℕ) → j < i → slotAt now j ≡ advance (suc j) (slotAt readySoFar j)
     pub untouched : (j : ℕ) → i ≤ j → slotAt now j ≡ slotAt slots j
     pub sixteen : length now ≡ 16
+
+-- What the part of the pass over the slots from `from` up to `to` is asked with: this is what holds after `from` slots of a valid record.
+pub record Passing (charge : ℕ) (requests : List ℕ) (slots : List Slot) (from to : ℕ) (now : List Slot) (late : ℕ) (choice : Claim) : Type 0 where
+  pub valid : ValidRecord charge slots
+  pub sixteen : length slots ≡ 16
+  pub upward : from ≤ to
+  pub within : to ≤ 16
+  pub after : AfterSlots charge requests slots from now late choice

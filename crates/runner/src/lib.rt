@@ -1,8 +1,10 @@
 // The runner of one core: its record and one tick.
 ghost use mathlib.Core.Path.{_≡_};
 ghost use mathlib.Core.Logic.{_≢_};
+ghost use mathlib.Core.List.{List};
 ghost use Prim.Native.Nat.{_+_, _-_, _≤_, min};
 ghost use lib.Dec.{eqb};
+ghost use Rattle.edf.specs.declared.Slot.{Slot};
 ghost use Rattle.edf.specs.Slots.{each, cannotBe, firstWrong};
 ghost use Rattle.edf.specs.Tick.{owedFor, released as releasedOf, ran as ranOf, run as runSlot, advanced as advancedOf, stepped as steppedOf, tick as tickOf};
 ghost use Rattle.refusal.specs.Conditions.{Decides};
@@ -11,7 +13,7 @@ ghost use Rattle.refusal.specs.declared.Cause.the-variants.{Slot as WrongSlot};
 ghost use Rattle.runner.specs.Answers.{tickAnswer};
 ghost use Rattle.runner.specs.Plain.{PlainTick, PlainRefusal};
 ghost use Rattle.runner.specs.Records.{ValidRecord, recordConditions};
-ghost use Rattle.runner.specs.Sweep.{lateSoFar, choiceSoFar, AfterSlots};
+ghost use Rattle.runner.specs.Sweep.{lateSoFar, choiceSoFar, AfterSlots, Passing};
 use edf::Claim;
 use edf::Slot;
 use refusal::Cause;
@@ -178,19 +180,22 @@ fn first_wrong(charge: u32, slots: [Slot; 16]) -> usize
     0
 }
 
-// The one pass of a tick: each occupied slot is released if it is due, may become the choice, and counts down.
-fn sweep(charge: u32, requests: [u32; 16], slots: [Slot; 16]) -> Swept
-    requires { ⌜ ValidRecord charge slots ⌝ }
-    ensures { λ r. ⌜ AfterSlots charge requests slots 16 (r .slots) (r .late) (r .choice) ⌝ }
+// A part of the pass: the slots from `from` up to, not including, `to`, counted from 0, where those before left these slots, late task and choice.
+// Each occupied slot is released if it is due, may become the choice, and counts down. Where `to` is `from` + 1, this is the step over one slot.
+fn pass(
+    charge: u32,
+    requests: [u32; 16],
+    mut next: [Slot; 16],
+    mut late: usize,
+    mut choice: Claim,
+    from: usize,
+    to: usize,
+) -> Swept
+    requires { ⌜ ((slots : List Slot) × Passing charge requests slots from to next late choice) ⌝ }
+    ensures { λ r. ⌜ ((slots : List Slot) → Passing charge requests slots from to next late choice → AfterSlots charge requests slots to (r .slots) (r .late) (r .choice)) ⌝ }
 {
-    let mut next = slots;
-    let mut late: usize = 0;
-    let mut choice = Claim {
-        task: 0,
-        deadline: 0,
-    };
-    let mut done: usize = 0;
-    while done < 16 {
+    let mut done = from;
+    while done < to {
         let s = next[done];
         if s.period != 0 {
             let mut ready = s;
@@ -209,6 +214,18 @@ fn sweep(charge: u32, requests: [u32; 16], slots: [Slot; 16]) -> Swept
         late: late,
         choice: choice,
     }
+}
+
+// The one pass of a tick, over all slots.
+fn sweep(charge: u32, requests: [u32; 16], slots: [Slot; 16]) -> Swept
+    requires { ⌜ ValidRecord charge slots ⌝ }
+    ensures { λ r. ⌜ AfterSlots charge requests slots 16 (r .slots) (r .late) (r .choice) ⌝ }
+{
+    let none = Claim {
+        task: 0,
+        deadline: 0,
+    };
+    pass(charge, requests, slots, 0, none, 0, 16)
 }
 
 // Step 2: the task that runs owes one tick less; with 0, idle, the slots stay as they are.
