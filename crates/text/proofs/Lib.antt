@@ -2,3 +2,4 @@ pub mod ClipLaws
 pub mod DecimalLaws
 pub mod NumberLaws
 pub mod JoinLaws
+pub mod ReaderLaws
