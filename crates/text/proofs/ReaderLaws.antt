@@ -1,7 +1,7 @@
 -- What is printed is read back: numbers, items between spaces, lines.
 use Prim.Native.Nat.{ℕ, zero, suc, _+_, _-_, _*_, _/_, _%_, _≤_, _<_}
 use mathlib.Core.Path.{_≡_, refl, _∙_, ap, ap₂}
-use mathlib.Core.Bool.{Bool, true, false}
+use mathlib.Core.Bool.{Bool, true, false, not, _&&_, false≢true}
 use mathlib.Core.List.{List, [], _∷_, _++_, map, map-append, append-assoc}
 use mathlib.Core.Logic.{by-cases}
 use lib.Dec.{eqb}
@@ -16,18 +16,26 @@ use Rattle.text.proofs.DecimalLaws.{decimal-one, decimal-more}
 -- ---- pieces
 
 -- a byte stands nowhere among these
-abbrev pub Lacks : ℕ → List ℕ → Type 0
-Lacks b [] = Unit {0}
-Lacks b (x ∷ xs) = (eqb x b ≡ false) × Lacks b xs
+abbrev pub lacks : ℕ → List ℕ → Bool
+lacks b [] = true
+lacks b (x ∷ xs) = not (eqb x b) && lacks b xs
 
-lacks-append : (b : ℕ) (xs ys : List ℕ) → Lacks b xs → Lacks b ys → Lacks b (xs ++ ys)
+lacks-append : (b : ℕ) (xs ys : List ℕ) → lacks b xs ≡ true → lacks b ys ≡ true → lacks b (xs ++ ys) ≡ true
 lacks-append b [] ys p q = q
-lacks-append b (x ∷ xs) ys p q = (p .0, lacks-append b xs ys (p .1) q)
+lacks-append b (x ∷ xs) ys p q = go (eqb x b) p (λ r. lacks-append b xs ys r q)
+  where
+    go : (c : Bool) → (not c && lacks b xs) ≡ true → (lacks b xs ≡ true → lacks b (xs ++ ys) ≡ true) → (not c && lacks b (xs ++ ys)) ≡ true
+    go true r more = r
+    go false r more = more r
 
-pieces-whole : (b : ℕ) (xs : List ℕ) → Lacks b xs → pieces b xs ≡ xs ∷ []
+pieces-whole : (b : ℕ) (xs : List ℕ) → lacks b xs ≡ true → pieces b xs ≡ xs ∷ []
 unfolding pieces
 pieces-whole b [] p = refl
-pieces-whole b (x ∷ xs) p = rw (p .0, pieces-whole b xs (p .1))
+pieces-whole b (x ∷ xs) p = go (eqb x b) p (pieces-whole b xs)
+  where
+    go : (c : Bool) → (not c && lacks b xs) ≡ true → (lacks b xs ≡ true → pieces b xs ≡ xs ∷ []) → ahead c x (pieces b xs) ≡ (x ∷ xs) ∷ []
+    go true r more = absurd (false≢true r)
+    go false r more = rw (more r)
 
 some-piece : (b : ℕ) (xs : List ℕ) → (p : List ℕ) × (ps : List (List ℕ)) × (pieces b xs ≡ p ∷ ps)
 unfolding pieces
@@ -59,9 +67,9 @@ digits-all : (bs : List ℕ) → Digits bs → allDigits bs ≡ true
 digits-all [] d = refl
 digits-all (b ∷ bs) d = rw (le-leb 48 b (d .0), le-leb b 57 (d .1), digits-all bs (d .2))
 
-digits-lack : (b : ℕ) → b < 48 → (xs : List ℕ) → Digits xs → Lacks b xs
-digits-lack b h [] d = tt
-digits-lack b h (x ∷ xs) d = (ne-eqb x b (λ (e : x ≡ b). omega (arith, d .0)), digits-lack b h xs (d .2))
+digits-lack : (b : ℕ) → b < 48 → (xs : List ℕ) → Digits xs → lacks b xs ≡ true
+digits-lack b h [] d = refl
+digits-lack b h (x ∷ xs) d = rw (ne-eqb x b (λ (e : x ≡ b). omega (arith, d .0)), digits-lack b h xs (d .2))
 
 digits-more : (xs : List ℕ) (b : ℕ) → Digits xs → 48 ≤ b → b ≤ 57 → Digits (xs ++ b ∷ [])
 digits-more [] b d l h = (l, h, tt)
@@ -123,11 +131,11 @@ number-read x = let s = spelt (suc x) x (omega arith) in rw (s .is, s .value)
 
 -- bytes of one line, and what they are read as
 pub record Part (bytes : List ℕ) (items : List Item) : Type 0 where
-  no-feed : Lacks 10 bytes
+  no-feed : lacks 10 bytes ≡ true
   reads : readLine bytes ≡ items
 
 -- letters that are no number
-pub word-part : (letters : List ℕ) → Lacks 10 letters → Lacks 32 letters → isNumber letters ≡ false → Part letters (word letters ∷ [])
+pub word-part : (letters : List ℕ) → lacks 10 letters ≡ true → lacks 32 letters ≡ true → isNumber letters ≡ false → Part letters (word letters ∷ [])
 unfolding item
 word-part letters f s n = record { no-feed = f; reads = rw (pieces-whole 32 letters s, n) }
 
@@ -146,17 +154,19 @@ unfolding field
 field-part {bytes} x p =
     let n = number-part x in
     record {
-      no-feed = lacks-append 10 bytes (32 ∷ decimal x) (p .no-feed) (refl, n .no-feed);
+      no-feed = lacks-append 10 bytes (32 ∷ decimal x) (p .no-feed) (n .no-feed);
       reads = ap (map item) (pieces-split 32 bytes (decimal x)) ∙ map-append item (pieces 32 bytes) (pieces 32 (decimal x)) ∙ ap₂ _++_ (p .reads) (n .reads);
     }
 
 -- the bytes of a whole line, before any others
-abbrev pub Line : List ℕ → List Item → Type 0
-Line bytes items = (rest : List ℕ) → readText (bytes ++ rest) ≡ items ∷ readText rest
+pub record Line (bytes : List ℕ) (items : List Item) : Type 0 where
+  pub read : (rest : List ℕ) → readText (bytes ++ rest) ≡ items ∷ readText rest
 
 pub line-ends : {bytes : List ℕ} {items : List Item} → Part bytes items → Line (bytes ++ ascii "\n") items
 unfolding readText
-line-ends {bytes} p rest =
-    ap (λ s. map readLine (pieces 10 s)) (append-assoc bytes (10 ∷ []) rest)
-    ∙ ap (map readLine) (pieces-split 10 bytes rest)
-    ∙ rw (pieces-whole 10 bytes (p .no-feed), p .reads)
+line-ends {bytes} p = record {
+  read = λ rest.
+      ap (λ s. map readLine (pieces 10 s)) (append-assoc bytes (10 ∷ []) rest)
+      ∙ ap (map readLine) (pieces-split 10 bytes rest)
+      ∙ rw (pieces-whole 10 bytes (p .no-feed), p .reads);
+}
