@@ -10,6 +10,7 @@ use Rattle.oldform.specs.Limits.{alone}
 use Rattle.newform.specs.Form.{newFields, newBytes}
 use Rattle.transfer.specs.Limits.{returned}
 use Rattle.listing.specs.Lines.{refusalLine}
+use Rattle.listing.specs.ReadBack.{RefusalRead}
 use Rattle.movereport.specs.Output.{Shows}
 use Rattle.movereport.specs.declared.Moved.{Moved}
 
@@ -19,6 +20,8 @@ pub record MoveReported (t : Table) (bytes : List ℕ) (r : Moved) : Type 0 wher
   pub moved : t .Valid → Shows bytes [] r
   pub some : t .Valid → 1 ≤ length (shown (r .table))
   pub refused : (number place : ℕ) → 1 ≤ number → First (t .conditions) number place → Shows [] (refusalLine number place) r
+  -- That line is read back by the codes of its bytes.
+  pub read-back : (number place : ℕ) → 1 ≤ number → First (t .conditions) number place → RefusalRead number place (shown (r .refusal))
 
 -- `tonew`: every valid table of the old form; numbers 1 to 7
 abbrev pub NewReported : List ℕ → Moved → Type 0
