@@ -1,7 +1,7 @@
 -- The words of the verdicts are those of the table, and the output is read back.
 use Prim.Native.Nat.{ℕ}
-use mathlib.Core.Path.{_≡_, refl, sym, ap}
-use mathlib.Core.List.{List, [], _∷_, _++_}
+use mathlib.Core.Path.{refl, ap}
+use mathlib.Core.List.{List, [], _∷_}
 use Rattle.text.specs.Reader.{Item, number, word}
 use Rattle.text.proofs.ReaderLaws.{Part, word-part, field-part, Line, line-ends}
 use Rattle.refusal.specs.declared.Cause.{Cause}

@@ -3,3 +3,4 @@ pub mod DecimalLaws
 pub mod NumberLaws
 pub mod JoinLaws
 pub mod ReaderLaws
+pub mod OnceLaws

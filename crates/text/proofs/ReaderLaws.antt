@@ -37,7 +37,8 @@ pieces-whole b (x ∷ xs) p = go (eqb x b) p (pieces-whole b xs)
     go true r more = absurd (false≢true r)
     go false r more = rw (more r)
 
-some-piece : (b : ℕ) (xs : List ℕ) → (p : List ℕ) × (ps : List (List ℕ)) × (pieces b xs ≡ p ∷ ps)
+-- there is always a piece
+pub some-piece : (b : ℕ) (xs : List ℕ) → (p : List ℕ) × (ps : List (List ℕ)) × (pieces b xs ≡ p ∷ ps)
 unfolding pieces
 some-piece b [] = ([], [], refl)
 some-piece b (x ∷ xs) = go (eqb x b) (some-piece b xs)

@@ -1,6 +1,7 @@
 -- A printed text read back, apart from what prints: by the codes of its bytes alone.
 use Prim.Native.Nat.{ℕ, _+_, _-_, _*_}
-use mathlib.Core.Bool.{Bool, true, false, cond, _&&_, _||_}
+use mathlib.Core.Path.{_≡_}
+use mathlib.Core.Bool.{Bool, true, false, cond, _&&_}
 use mathlib.Core.List.{List, [], _∷_, map}
 use lib.Dec.{eqb, ltb, leb}
 
@@ -50,3 +51,7 @@ readText text = map readLine (pieces 10 text)
 -- nothing, as it is read
 abbrev pub nothing : List Item
 nothing = word [] ∷ []
+
+-- No two texts are read alike: what is read fixes every byte.
+abbrev pub ReadOnce : Type 0
+ReadOnce = (a b : List ℕ) → readText a ≡ readText b → a ≡ b
