@@ -35,7 +35,7 @@ use Rattle.transfer.proofs.StoreLaws.{answer-outcome}
 use Rattle.transfer.proofs.CallLaws.{returned-sound}
 use Rattle.listing.specs.Lines.{refusalLine}
 use Rattle.listing.specs.Printed.{printed}
-use Rattle.listing.proofs.ReadBackLaws.{refusal-read}
+use Rattle.listing.proofs.BackLaws.{refusal-read}
 use Rattle.movereport.specs.Output.{Shows, movedBytes, MoveOutput, NewOutput, OldOutput}
 use Rattle.movereport.specs.Reported.{MoveReported, NewReported, OldReported}
 use Rattle.movereport.specs.declared.Moved.{Moved}

@@ -1,7 +1,7 @@
 -- The whole output is the one that the definition gives.
 use Prim.Native.Nat.{ℕ}
 use mathlib.Core.Path.{_≡_, refl, sym, _∙_, ap, ap₂}
-use mathlib.Core.List.{List, [], _∷_}
+use mathlib.Core.List.{List, []}
 use native.Mathlib.Omega.{arith}
 use Rattle.refusal.specs.declared.Cause.{Cause}
 use Rattle.refusal.specs.declared.Outcome.{Outcome}
@@ -17,16 +17,14 @@ use Rattle.quick.proofs.QuickLaws.{quick-accepted-is}
 use Rattle.quick.proofs.PromiseLaws.{quick-outcome}
 use Rattle.text.specs.Ascii.{ascii}
 use Rattle.text.specs.Decimal.{field}
-use Rattle.text.specs.Reader.{Item, number}
 use Rattle.text.specs.Shown.{shown, Appended}
 use Rattle.text.specs.declared.Text.{Text}
 use Rattle.text.proofs.ClipLaws.{append-both, append-whole}
-use Rattle.text.proofs.ReaderLaws.{word-part, field-part, Line, line-ends}
 use Rattle.listing.specs.Lines.{tableLines}
 use Rattle.listing.specs.Printed.{printed}
 use Rattle.listing.proofs.PrintedLaws.{printed-same, in-terms}
-use Rattle.listing.proofs.ReadBackLaws.{table-read, printed-read}
-use Rattle.quickreport.specs.Output.{quickSummary, quickLines, quickOutputOf, Reported, quickWord, QuickReadBack}
+use Rattle.quickreport.specs.Output.{quickSummary, quickLines, quickOutputOf, Reported, QuickReadBack}
+use Rattle.quickreport.proofs.BackLaws.{quick-read}
 
 pub summary-made : {t a b r : Text} (plan : QuickPlan) → Appended t (ascii "quick") 5 a
     → Appended a (field (plan .rejected)) 21 b → Appended b (ascii "\n") 1 r → Appended t (quickSummary plan) 27 r
@@ -52,20 +50,6 @@ unfolding quickOutputOf
 output-is t =
     ap (λ o. printed o (quickLines (readingOf t .tasks) (quickOf t))) (quick-outcome t)
     ∙ printed-same (t .outcome) (λ e. ap₂ quickLines (read-tasks t refl (read-outcome t refl ∙ e)) (quick-accepted-is t e))
-
--- ---- the output is read back
-
-summary-line : (plan : QuickPlan) → Line (quickSummary plan) (quickWord ∷ number (plan .rejected) ∷ [])
-unfolding quickSummary
-summary-line plan = line-ends (field-part (plan .rejected) (word-part (ascii "quick") refl refl refl))
-
-quick-read : {t : Table} → Sound t → {output : List ℕ} → Reported t output → QuickReadBack t output
-unfolding quickLines
-quick-read {t} s p =
-    let plan = quickFor (t .fields) in
-    let Last : List Item → Type 0 = λ line. line ≡ quickWord ∷ number (plan .rejected) ∷ [] in
-    printed-read s (plan .placement) (quickLines (taskSetOf (t .fields)) plan) Last p
-    (λ w. table-read (t .fields) (plan .placement) (summary-line plan) w Last refl)
 
 -- ---- from the reader's answer to the output: the clauses of `report`
 

@@ -24,7 +24,7 @@ use Rattle.listing.specs.Printed.{printed}
 use Rattle.listing.proofs.PrintedLaws.{printed-same, in-terms}
 use Rattle.report.specs.Output.{summaryLine, planLines, outputOf}
 use Rattle.report.specs.Reported.{Reported, PlanReadBack}
-use Rattle.report.proofs.ReadBackLaws.{plan-read}
+use Rattle.report.proofs.BackLaws.{plan-read}
 
 pub plan-whole : {t a r : Text} (s : TaskSet) (plan : Allocation) → shown t ≡ [] → Appended t (tableLines s (plan .placement)) 2085 a
     → Appended a (summaryLine plan) 50 r → shown r ≡ planLines s plan

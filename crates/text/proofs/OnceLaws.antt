@@ -9,7 +9,7 @@ use borrow.Author.Tests.{leb-true, ltb-true, eqb-true}
 use Rattle.text.specs.Decimal.{decimal}
 use Rattle.text.specs.Reader.{Item, number, word, allDigits, isNumber, valueFrom, item, ahead, pieces, readLine, readText, ReadOnce}
 use Rattle.text.proofs.DecimalLaws.{decimal-one, decimal-more}
-use Rattle.text.proofs.ReaderLaws.{some-piece}
+use Rattle.text.proofs.BackLaws.{some-piece}
 
 -- ---- numbers
 

@@ -26,6 +26,7 @@ abbrev pub valueFrom : ℕ → List ℕ → ℕ
 valueFrom v [] = v
 valueFrom v (b ∷ bs) = valueFrom (10 * v + (b - 48)) bs
 
+-- what bytes between two spaces are read as
 unfoldable pub item : List ℕ → Item
 item bytes = cond (isNumber bytes) (number (valueFrom 0 bytes)) (word bytes)
 

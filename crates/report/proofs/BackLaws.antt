@@ -3,7 +3,7 @@ use Prim.Native.Nat.{ℕ}
 use mathlib.Core.Path.{refl, ap}
 use mathlib.Core.List.{List, [], _∷_}
 use Rattle.text.specs.Reader.{Item, number, word}
-use Rattle.text.proofs.ReaderLaws.{Part, word-part, field-part, Line, line-ends}
+use Rattle.text.proofs.BackLaws.{Part, word-part, field-part, Line, line-ends}
 use Rattle.refusal.specs.declared.Cause.{Cause}
 use Rattle.taskset.specs.Reading.{taskSetOf}
 use Rattle.taskset.specs.Table.{Table, Sound}
@@ -11,7 +11,7 @@ use Rattle.planner.specs.Plan.{planFor}
 use Rattle.planner.specs.declared.Allocation.{Allocation}
 use Rattle.planner.specs.declared.Verdict.{Verdict}
 use Rattle.planner.specs.declared.Verdict.the-variants.{All, Short, Spent, Refused}
-use Rattle.listing.proofs.ReadBackLaws.{table-read, printed-read}
+use Rattle.listing.proofs.BackLaws.{table-read, printed-read}
 use Rattle.report.specs.Output.{verdictWord, summaryLine, planLines}
 use Rattle.report.specs.VerdictTable.{verdictTable, Agrees}
 use Rattle.report.specs.Reported.{Reported, PlanLast, PlanReadBack}

@@ -3,15 +3,12 @@ use Prim.Native.Nat.{ℕ, zero, suc, _+_, _-_, _*_, _/_, _%_, _≤_, _<_}
 use mathlib.Core.Path.{_≡_, refl, _∙_, ap, ap₂}
 use mathlib.Core.Bool.{Bool, true, false, not, _&&_, false≢true}
 use mathlib.Core.List.{List, [], _∷_, _++_, map, map-append, append-assoc}
-use mathlib.Core.Logic.{by-cases}
 use lib.Dec.{eqb}
-use native.Mathlib.Decide.{decLt}
 use native.Mathlib.Omega.{arith}
 use borrow.Author.Tests.{le-leb, lt-ltb, eq-eqb, ne-eqb}
 use Rattle.text.specs.Ascii.{ascii}
-use Rattle.text.specs.Decimal.{decimal, field, NumbersReadBack}
+use Rattle.text.specs.Decimal.{front, digitsBy, decimal, field, NumbersReadBack}
 use Rattle.text.specs.Reader.{Item, number, word, allDigits, isNumber, valueFrom, item, ahead, pieces, readLine, readText}
-use Rattle.text.proofs.DecimalLaws.{decimal-one, decimal-more}
 
 -- ---- pieces
 
@@ -106,10 +103,10 @@ spelt-one x h =
     let d : Digits ((48 + x % 10) ∷ []) = (omega arith, omega arith, tt) in
     record { digits = d; value = omega arith; leads = λ l. omega arith; is = digits-all ((48 + x % 10) ∷ []) d }
 
-spelt-more : (x : ℕ) (bs : List ℕ) → 10 ≤ x → Spelt (x / 10) bs → Spelt x (bs ++ (48 + x % 10) ∷ [])
+spelt-more : (x : ℕ) (bs : List ℕ) → 0 < x / 10 → Spelt (x / 10) bs → Spelt x (bs ++ (48 + x % 10) ∷ [])
 spelt-more x bs h s =
     let d = digits-more bs (48 + x % 10) (s .digits) (omega arith) (omega arith) in
-    let l = leads-more bs (48 + x % 10) (s .leads (omega arith)) in
+    let l = leads-more bs (48 + x % 10) (s .leads h) in
     record {
       digits = d;
       value = value-more 0 bs (48 + x % 10) ∙ rw (s .value) (omega arith);
@@ -117,16 +114,22 @@ spelt-more x bs h s =
       is = leads-number (bs ++ (48 + x % 10) ∷ []) d l;
     }
 
-spelt : (k x : ℕ) → x < k → Spelt x (decimal x)
-spelt zero x h = absurd (omega arith)
-spelt (suc k) x h =
-    by-cases (decLt x 10)
-    (λ l. rw (decimal-one x l) (spelt-one x l))
-    (λ l. rw (decimal-more x (omega arith)) (spelt-more x (decimal (x / 10)) (omega arith) (spelt k (x / 10) (omega arith))))
+spelt-by : (k x : ℕ) → x < k → Spelt x (digitsBy k x)
+unfolding digitsBy front
+spelt-by zero x h = absurd (omega arith)
+spelt-by (suc k) x h = go (x / 10) refl (λ q l. spelt-by k q l)
+  where
+    go : (q : ℕ) → x / 10 ≡ q → ((q : ℕ) → q < k → Spelt q (digitsBy k q)) → Spelt x (front (digitsBy k) q ++ (48 + x % 10) ∷ [])
+    go zero e more = spelt-one x (omega arith)
+    go (suc q) e more = spelt-more x (digitsBy k (suc q)) (omega arith) (rw e (more (suc q) (omega arith)))
+
+spelt : (x : ℕ) → Spelt x (decimal x)
+unfolding decimal
+spelt x = spelt-by (suc x) x (omega arith)
 
 pub number-read : NumbersReadBack
 unfolding item
-number-read x = let s = spelt (suc x) x (omega arith) in rw (s .is, s .value)
+number-read x = let s = spelt x in rw (s .is, s .value)
 
 -- ---- lines
 
@@ -143,7 +146,7 @@ word-part letters f s n = record { no-feed = f; reads = rw (pieces-whole 32 lett
 -- a number
 pub number-part : (x : ℕ) → Part (decimal x) (number x ∷ [])
 number-part x =
-    let s = spelt (suc x) x (omega arith) in
+    let s = spelt x in
     record {
       no-feed = digits-lack 10 (omega arith) (decimal x) (s .digits);
       reads = rw (pieces-whole 32 (decimal x) (digits-lack 32 (omega arith) (decimal x) (s .digits)), number-read x);

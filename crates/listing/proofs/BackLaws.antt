@@ -10,7 +10,7 @@ use Rattle.numbers.specs.Rows.{tab, entry}
 use Rattle.numbers.proofs.RowLaws.{length-tab, getD-tab}
 use Rattle.text.specs.Ascii.{ascii}
 use Rattle.text.specs.Reader.{Item, number, readText, pieces, item, nothing}
-use Rattle.text.proofs.ReaderLaws.{word-part, number-part, field-part, Line, line-ends}
+use Rattle.text.proofs.BackLaws.{word-part, number-part, field-part, Line, line-ends}
 use Rattle.affinity.specs.Permitted.{permittedCount, lowestPermitted}
 use Rattle.affinity.proofs.PermittedLaws.{count-within, lowest-within}
 use Rattle.taskset.specs.Fields.{periodAt, budgetAt, affinityAt}
