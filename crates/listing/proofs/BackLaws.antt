@@ -22,7 +22,7 @@ use Rattle.taskset.specs.declared.Fields.{Fields}
 use Rattle.taskset.specs.declared.TaskSet.{TaskSet}
 use Rattle.listing.specs.Lines.{refusalLine, sizesLine, taskLine, taskLines, tableLines}
 use Rattle.listing.specs.Printed.{Printed}
-use Rattle.listing.specs.ReadBack.{tableWord, refusedWord, lineAt, TaskRead, TableRead, RefusalRead, ReadBack}
+use Rattle.listing.specs.ReadBack.{tableWord, refusedWord, lineAt, TaskRead, TableRead, RefusalRead, OutputRead}
 
 -- ---- one line
 
@@ -126,7 +126,7 @@ module _ (f : Fields) (cores : List ℕ) {bytes : List ℕ} {items : List Item} 
 
 -- an output that is these lines, or the line of a refusal
 pub printed-read : {t : Table} → Sound t → (cores lines : List ℕ) (Last : List Item → Type 0) {output : List ℕ} → Printed t lines output
-    → (Within (t .fields) → TableRead (t .fields) cores Last lines) → ReadBack t cores Last output
+    → (Within (t .fields) → TableRead (t .fields) cores Last lines) → OutputRead t cores Last output
 printed-read {t} s cores lines Last p r = record {
   planned = λ v. subst (TableRead (t .fields) cores Last) (sym (p .planned v)) (r (s .within v));
   refused = λ value place h f. rw (p .refused value place h f) (refusal-read value place);

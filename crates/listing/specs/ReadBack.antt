@@ -26,8 +26,8 @@ abbrev pub lineAt : List ℕ → ℕ → List Item
 lineAt text k = getD (readText text) k []
 
 -- how many of the table's cores the task at k permits
-abbrev pub permittedTo : Fields → ℕ → ℕ
-permittedTo f k = sumFromOne (λ core. cond (permitted (affinityAt f k) core) 1 0) (f .m)
+abbrev pub permittedBy : Fields → ℕ → ℕ
+permittedBy f k = sumFromOne (λ core. cond (permitted (affinityAt f k) core) 1 0) (f .m)
 
 -- The line of the task at k: its number, period, budget (the paper's time) and core, how many cores it permits, and the lowest of them.
 abbrev pub TaskRead : Fields → List ℕ → ℕ → List Item → Type 0
@@ -35,7 +35,7 @@ TaskRead f cores k line =
     (lowest : ℕ)
     × IsLowest (affinityAt f k) lowest
     × (line
-    ≡ number (k + 1) ∷ number (periodAt f k) ∷ number (budgetAt f k) ∷ number (entry cores k) ∷ number (permittedTo f k) ∷ number lowest ∷ [])
+    ≡ number (k + 1) ∷ number (periodAt f k) ∷ number (budgetAt f k) ∷ number (entry cores k) ∷ number (permittedBy f k) ∷ number lowest ∷ [])
 
 -- A text of the table with these cores: the first line with n, m and H, a line for each task, a last line, and nothing after its line feed.
 pub record TableRead (f : Fields) (cores : List ℕ) (Last : List Item → Type 0) (text : List ℕ) : Type 0 where
@@ -51,6 +51,6 @@ RefusalRead value place text = readText text ≡ (refusedWord ∷ number value �
 
 -- The output read back: of a valid table, the table with these cores and a last line of which `Last` holds; of a refused one, number and
 -- place of the first condition that holds.
-pub record ReadBack (t : Table) (cores : List ℕ) (Last : List Item → Type 0) (output : List ℕ) : Type 0 where
+pub record OutputRead (t : Table) (cores : List ℕ) (Last : List Item → Type 0) (output : List ℕ) : Type 0 where
   pub planned : t .Valid → TableRead (t .fields) cores Last output
   pub refused : (value place : ℕ) → 1 ≤ value → First (t .conditions) value place → RefusalRead value place output

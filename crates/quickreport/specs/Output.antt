@@ -12,7 +12,7 @@ use Rattle.quick.specs.Quick.{quickFor, quickOf}
 use Rattle.quick.specs.declared.QuickPlan.{QuickPlan}
 use Rattle.listing.specs.Lines.{tableLines}
 use Rattle.listing.specs.Printed.{printed, Printed}
-use Rattle.listing.specs.ReadBack.{ReadBack}
+use Rattle.listing.specs.ReadBack.{OutputRead}
 
 -- last line: the rejected demand (the paper's left-out weight)
 unfoldable pub quickSummary : QuickPlan → List ℕ
@@ -38,4 +38,4 @@ quickWord = word (113 ∷ 117 ∷ 105 ∷ 99 ∷ 107 ∷ [])
 -- the rejected demand of the quick plan; a refused one's is number and place.
 abbrev pub QuickReadBack : Table → List ℕ → Type 0
 QuickReadBack t output =
-    ReadBack t (quickFor (t .fields) .placement) (λ line. line ≡ quickWord ∷ number (quickFor (t .fields) .rejected) ∷ []) output
+    OutputRead t (quickFor (t .fields) .placement) (λ line. line ≡ quickWord ∷ number (quickFor (t .fields) .rejected) ∷ []) output

@@ -9,7 +9,7 @@ use Rattle.taskset.specs.Table.{Table}
 use Rattle.planner.specs.Plan.{planFor}
 use Rattle.planner.specs.declared.Allocation.{Allocation}
 use Rattle.listing.specs.Printed.{Printed}
-use Rattle.listing.specs.ReadBack.{ReadBack}
+use Rattle.listing.specs.ReadBack.{OutputRead}
 use Rattle.report.specs.Output.{planLines}
 use Rattle.report.specs.VerdictTable.{VerdictRow, verdict, verdictTable}
 
@@ -29,4 +29,4 @@ PlanLast plan line = (cause : Cause) → LastBy (verdictTable cause) plan line
 -- Read back by the codes of its bytes, a valid table's output is n, m and H, six numbers a task with the plan's core, then verdict, rejected
 -- demand and steps of the plan; a refused one's is number and place.
 abbrev pub PlanReadBack : Table → List ℕ → Type 0
-PlanReadBack t output = ReadBack t (planFor (t .fields) 1000000 .placement) (PlanLast (planFor (t .fields) 1000000)) output
+PlanReadBack t output = OutputRead t (planFor (t .fields) 1000000 .placement) (PlanLast (planFor (t .fields) 1000000)) output
