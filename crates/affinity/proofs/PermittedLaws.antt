@@ -16,7 +16,7 @@ use Rattle.numbers.specs.Sums.{sumTo}
 use Rattle.numbers.proofs.BoolLaws.{true-or-false, cond-le, or-cases, or-false-left, or-false-right}
 use Rattle.numbers.proofs.FirstLaws.{first-zero, first-is, first-unique, isFirst-map}
 use Rattle.numbers.proofs.SumLaws.{sumTo-cong, sumTo-above, sumTo-bound, sumTo-grows, sumTo-full, sumTo-ones}
-use Rattle.affinity.specs.Permitted.{permitted, allowed, permittedCount, lowestPermitted, unfit, Unfit, everyCore, CoreByte}
+use Rattle.affinity.specs.Permitted.{permitted, allowed, permittedCount, lowestPermitted, unfit, Unfit, everyCore, CoreByte, IsLowest}
 use Rattle.affinity.proofs.BitLaws.{digit, digit-or, digit-zero, digit-above, ones-digits, trailing-first}
 
 -- ---- the permitted set
@@ -42,6 +42,24 @@ module _ (byte core : ℕ) where
 pub count-ones : (byte k : ℕ) → byte < 2 ^ k → ones byte ≡ permittedCount byte k
 unfolding permittedCount
 count-ones byte k h = ones-digits k byte h ∙ sumTo-cong (digit byte) _ k (λ i l. sym (counts byte (suc i)))
+
+-- a byte that permits one of the cores has the lowest of them
+lowest-is : (byte k core : ℕ) → 1 ≤ core → core ≤ k → permitted byte core ≡ true → IsLowest byte (lowestPermitted byte k)
+unfolding lowestPermitted
+lowest-is byte k core l h t =
+    let p : ℕ → Bool = λ j. permitted byte (j + 1) in
+    by-cases (ℕ-discrete (first p k) 0)
+    (λ z. absurd (true≢false (sym t ∙ back core l ∙ first-zero p k z (core - 1) (omega arith))))
+    (λ n.
+    let i = first-is p k (first p k - 1) (omega arith) in
+    record {
+      counted = omega arith;
+      here = back (first p k) (omega arith) ∙ i .here;
+      none-below = λ below b g. back below b ∙ ⊎-elim (λ q. absurd (i .none (below - 1) (omega arith) q)) (λ q. q) (true-or-false (p (below - 1)));
+    })
+  where
+    back : (c : ℕ) → 1 ≤ c → permitted byte c ≡ permitted byte (c - 1 + 1)
+    back c l = ap (permitted byte) (omega arith)
 
 -- the trailing zeros, plus 1, are the lowest permitted core
 pub lowest-zeros : (byte k : ℕ) → 0 < byte → byte < 2 ^ k → suc (trailingZeros k byte) ≡ lowestPermitted byte k
@@ -128,7 +146,7 @@ unfolding unfit
 fit-some m zero c = absurd (true≢false (fit-not m zero c))
 fit-some m (suc byte) c = omega arith
 
--- ---- how many
+-- ---- how many, and the lowest
 
 count-bit : (byte core : ℕ) → cond (permitted byte core) 1 0 ≤ 1
 count-bit byte core = cond-le (permitted byte core) 1 1 (omega arith)
@@ -148,6 +166,9 @@ unfolding permittedCount
 count-within m byte k h b =
     let e : m + (k - m) ≡ k = omega arith in
     rw e at (sumTo-above (λ k. cond (permitted byte (suc k)) 1 0) m (k - m) (λ j i. rw (b .none-above (suc j) (omega arith))))
+
+pub lowest-within : (m byte k : ℕ) → m ≤ k → CoreByte m byte → IsLowest byte (lowestPermitted byte k)
+lowest-within m byte k h b = lowest-is byte k (b .some .0) (b .some .1) (omega (arith, b .some .2)) (b .some .3)
 
 -- all m cores are permitted exactly if m of them are
 pub count-full : (byte m : ℕ) → permittedCount byte m ≡ m → (core : ℕ) → 1 ≤ core → core ≤ m → permitted byte core ≡ true

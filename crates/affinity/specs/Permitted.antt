@@ -41,3 +41,9 @@ pub record CoreByte (m byte : ℕ) : Type 0 where
   pub some : (core : ℕ) × (1 ≤ core) × (core ≤ m) × (permitted byte core ≡ true)
   pub none-above : (core : ℕ) → m < core → permitted byte core ≡ false
   pub weighs : byte ≡ cond (permitted byte 1) 1 0 + cond (permitted byte 2) 2 0 + cond (permitted byte 3) 4 0 + cond (permitted byte 4) 8 0
+
+-- The lowest core that a byte permits: it permits this one, and none below.
+pub record IsLowest (byte core : ℕ) : Type 0 where
+  pub counted : 1 ≤ core
+  pub here : permitted byte core ≡ true
+  pub none-below : (below : ℕ) → 1 ≤ below → below < core → permitted byte below ≡ false

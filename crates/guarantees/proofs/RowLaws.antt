@@ -54,7 +54,7 @@ base-hold = (refl, (refl, (refl, (refl, (refl, (refl, (refl, (refl, (refl, (refl
 
 more-hold : AllHold more
 unfolding opened more
-more-hold = (refl, (refl, (refl, (refl, (refl, (refl, (refl, (refl, (refl, (refl, (refl, (refl, (refl, (refl, (refl, (refl, tt))))))))))))))))
+more-hold = (refl, (refl, (refl, (refl, (refl, (refl, (refl, (refl, (refl, (refl, (refl, (refl, (refl, (refl, (refl, (refl, (refl, tt)))))))))))))))))
 
 quicks-hold : AllHold quicks
 unfolding opened quicks
@@ -74,7 +74,7 @@ ties-hold = (refl, (refl, (refl, (refl, (refl, (refl, (refl, (refl, (refl, (refl
 
 newTables-hold : AllHold newTables
 unfolding opened newTables
-newTables-hold = ((refl, refl, refl), (refl, (refl, (refl, (refl, (refl, (refl, (refl, ((refl, refl), ((refl, refl), ((refl, refl), ((refl, refl), ((refl, refl), tt)))))))))))))
+newTables-hold = ((refl, refl, refl), (refl, (refl, (refl, (refl, (refl, (refl, (refl, (refl, ((refl, refl), ((refl, refl), ((refl, refl), ((refl, refl), ((refl, refl), tt))))))))))))))
 
 moves-hold : AllHold moves
 unfolding opened moves

@@ -18,6 +18,7 @@ use Rattle.transfer.specs.Lent.{transferOf, exitOf}
 use Rattle.transfer.specs.Tables.{written, returned}
 use Rattle.transfer.specs.declared.Transfer.{Transfer}
 use Rattle.planner.specs.Plan.{planOf, verdictOutcome}
+use Rattle.planner.specs.declared.Allocation.{Allocation}
 use Rattle.planner.specs.declared.Verdict.{Verdict}
 use Rattle.planner.specs.declared.Verdict.the-variants.{All, Short, Spent}
 use Rattle.quick.specs.Quick.{quickOf}
@@ -29,7 +30,7 @@ use Rattle.edf.specs.Guarantee.{runs}
 use Rattle.edf.specs.Tick.{tick, ticked}
 use Rattle.start.specs.Starts.{startOf}
 use Rattle.text.specs.Ascii.{ascii}
-use Rattle.report.specs.Output.{outputOf}
+use Rattle.report.specs.Output.{planLines, outputOf}
 
 -- A call that stores a table in a lent output: the writer of the new form, the move from the old form, and the move back.
 pub data Storing : Type 0 where
@@ -59,7 +60,8 @@ outAfter call out = exitOf Buffer (bytesFor call) (tableFor call) out
 -- a step ceiling; a refusal with its number and place; a fresh core's slots, or its refusal; the tasks run by the ticks of a fresh core; one tick of
 -- given slots, with the task run, the late task and the next slots, or its refusal's place. Of tables in the new form: their fields and hyperperiod, or
 -- the refusal of the reader; a stored table's length and the output, or the refusal, which leaves the output; the whole output of the program, and
--- that of the quick one. Last, a row of the calls before these on a board with a charge, and one with core bytes.
+-- that of the quick one; the lines of a table and an answer that is given by hand. Last, a row of the calls before these on a board with a charge, and
+-- one with core bytes.
 pub data Row : Type 0 where
   frames : List ℕ → ℕ → Row
   plans : List ℕ → ℕ → Verdict → List ℕ → ℕ → ℕ → Row
@@ -77,6 +79,7 @@ pub data Row : Type 0 where
   refusesStore : Storing → List ℕ → ℕ → ℕ → Row
   prints : List ℕ → String → Row
   printsQuick : List ℕ → String → Row
+  lists : List ℕ → Allocation → String → Row
   charged : ℕ → Row → Row
   tied : List ℕ → Row → Row
 
@@ -105,6 +108,7 @@ Holds charge bytes (refusesStore call out number place) =
     Gives (answerTo call (length out) .outcome) number place × (answerTo call (length out) .length ≡ 0) × (outAfter call out ≡ out)
 Holds charge bytes (prints table output) = outputOf (new table) ≡ ascii output
 Holds charge bytes (printsQuick table output) = quickOutputOf (new table) ≡ ascii output
+Holds charge bytes (lists table plan output) = planLines (readingOf (new table) .tasks) plan ≡ ascii output
 Holds charge bytes (charged own row) = Holds own bytes row
 Holds charge bytes (tied own row) = Holds charge (λ table. own) row
 
@@ -196,6 +200,13 @@ boardFields given rest = record {
   given = given;
 }
 
+-- sixteen tasks on four cores with each core byte, and core 4 alone twice
+abbrev pub sixteen : List ℕ
+sixteen =
+    newTable 4 0 (10000 ∷ 5000 ∷ 2500 ∷ 2000 ∷ 1250 ∷ 1000 ∷ 625 ∷ 500 ∷ 400 ∷ 250 ∷ 200 ∷ 125 ∷ 100 ∷ 50 ∷ 20 ∷ 10 ∷ [])
+    (3500 ∷ 850 ∷ 770 ∷ 630 ∷ 350 ∷ 315 ∷ 210 ∷ 180 ∷ 105 ∷ 77 ∷ 42 ∷ 31 ∷ 21 ∷ 10 ∷ 4 ∷ 2 ∷ [])
+    (1 ∷ 2 ∷ 3 ∷ 4 ∷ 5 ∷ 6 ∷ 7 ∷ 8 ∷ 9 ∷ 10 ∷ 11 ∷ 12 ∷ 13 ∷ 14 ∷ 15 ∷ 8 ∷ [])
+
 -- Tables in lent outputs. The listing moved to the new form and back, and three tasks written, whatever stands beyond the third; each table stands in
 -- front, and the bytes behind it are kept. On two cores a task gets the byte of both. Refused, with the output left as it was: to be moved back, a task
 -- that may use the first of two cores alone; a charge, where there is no room either; a table with its own fault, before both; one byte too little
@@ -222,12 +233,14 @@ moves =
 
 -- The new form, read and printed. Three tasks of which each number stands in its own place. Fewer than 4 bytes are refused before the first byte is
 -- looked at, an old table by its first byte, before a size; a table of the old form's length by its length; a charge after that and before a
--- period; a byte with a bit above core m for its task. Both programs go by the charge and the core bytes of the table.
+-- period; a byte with a bit above core m for its task. Both programs go by the charge and the core bytes of the table. Every task number and
+-- every core byte as it is printed.
 unfoldable pub newTables : List Row
 newTables =
     readsNew board (boardFields 3 (replicate 13 0)) 300
     ∷ prints board "table 3 2 300\n1 10 5 2 1 2\n2 20 8 1 2 1\n3 300 140 0 1 1\nshort 144 3\n"
     ∷ printsQuick (newTable 2 0 (4 ∷ 4 ∷ []) (4 ∷ 4 ∷ []) (3 ∷ 1 ∷ [])) "table 2 2 4\n1 4 4 1 2 1\n2 4 4 0 1 1\nquick 4\n"
+    ∷ printsQuick sixteen "table 16 4 10000\n1 10000 3500 1 1 1\n2 5000 850 0 1 2\n3 2500 770 1 2 1\n4 2000 630 3 1 3\n5 1250 350 3 2 1\n6 1000 315 2 2 2\n7 625 210 1 3 1\n8 500 180 4 1 4\n9 400 105 4 2 1\n10 250 77 2 2 2\n11 200 42 2 3 1\n12 125 31 3 2 3\n13 100 21 4 3 1\n14 50 10 0 3 2\n15 20 4 0 4 1\n16 10 2 0 1 4\nquick 7700\n"
     ∷ prints (5 ∷ 1 ∷ 1 ∷ []) "refused 1 0\n"
     ∷ prints listing "refused 17 0\n"
     ∷ prints (0 ∷ 1 ∷ 1 ∷ 0 ∷ 10 ∷ 0 ∷ 0 ∷ 0 ∷ 1 ∷ 0 ∷ []) "refused 4 0\n"
@@ -340,7 +353,8 @@ quicks =
 -- The excess counts: what two cores cannot hold ends the walk at the first placement that leaves out no more, whether a core is full or shared.
 -- A spent walk returns the last placement that it stored: here the second one, at step 10; the first, at step 5, leaves out 15.
 -- A task that asks for less than its time gets what it asked for.
--- The listing, rows d and b, row k and the refusals of row l, and no byte, as the program prints them.
+-- The listing, rows d and b, row k and the refusals of row l, and no byte, as the program prints them; the lines of the listing's table and row f's
+-- answer, which is spent.
 -- Slots 2 and 3 are late: the lower is reported, the rest is dropped, and the one that is due sooner runs.
 unfoldable pub more : List Row
 more =
@@ -359,6 +373,8 @@ more =
     ∷ prints (newTable 1 0 (10 ∷ []) (11 ∷ []) (1 ∷ [])) "refused 6 1\n"
     ∷ prints (0 ∷ 17 ∷ 1 ∷ 0 ∷ []) "refused 2 0\n"
     ∷ prints [] "refused 1 0\n"
+    ∷ lists newListing (record { verdict = Spent; placement = row 0 3 (entry (1 ∷ 0 ∷ 0 ∷ [])); rejected = 10; steps = 5 })
+    "table 3 1 10\n1 10 7 1 1 1\n2 10 6 0 1 1\n3 10 4 0 1 1\nspent 10 5\n"
     ∷ tickOnce (front (slot 8 1 3 0 ∷ slot 10 3 0 2 ∷ slot 5 2 0 1 ∷ [])) (9 ∷ 1 ∷ 9 ∷ replicate 13 0) 3 2
     (front (slot 8 1 2 0 ∷ slot 10 3 9 1 ∷ slot 5 2 4 1 ∷ []))
     ∷ []

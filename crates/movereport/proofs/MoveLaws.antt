@@ -7,6 +7,7 @@ use lib.ListN.{length, take, drop}
 use lib.Seq.{length-take-le, take-append-seam}
 use native.Mathlib.Omega.{arith}
 use borrow.Author.Tests.{le-ltb}
+use Rattle.refusal.specs.Conditions.{First}
 use Rattle.refusal.specs.Tests.{_then_, refuseIf, roomTest, byOutcome}
 use Rattle.refusal.specs.declared.Outcome.{Outcome}
 use Rattle.refusal.specs.declared.Outcome.the-variants.{Accepted, Refused}
@@ -32,7 +33,9 @@ use Rattle.transfer.specs.Promise.{storedIn}
 use Rattle.transfer.specs.declared.Transfer.{Transfer}
 use Rattle.transfer.proofs.StoreLaws.{transfer-outcome}
 use Rattle.transfer.proofs.CallLaws.{returned-sound}
+use Rattle.listing.specs.Lines.{refusalLine}
 use Rattle.listing.specs.Printed.{printed}
+use Rattle.listing.proofs.BackLaws.{refusal-read}
 use Rattle.movereport.specs.Output.{Shows, movedBytes, MoveOutput}
 use Rattle.movereport.specs.Reported.{MoveReported}
 use Rattle.movereport.specs.declared.Moved.{Moved}
@@ -83,14 +86,18 @@ module _ (bytes : Fields → List ℕ) {t : Table} (sound : Sound t) (out : List
     unfolding movedBytes printed byOutcome
     moved-shown v = let q = table-accepts sound .1 v in record { table = s .table ∙ rw q; refusal = s .refusal ∙ rw q }
 
-    in-terms : 1 ≤ length moved → MoveReported bytes t w
+    refusal-shown : (number place : ℕ) → 1 ≤ number → First (t .conditions) number place → Shows [] (refusalLine number place) w
     unfolding movedBytes printed byOutcome
+    refusal-shown number place h f =
+        let g = gives-refused tests number place h (decides (sound .tested) .refused number place h .1 f) in
+        record { table = s .table ∙ rw (g .1); refusal = s .refusal ∙ rw (g .1, g .2, g .3) }
+
+    in-terms : 1 ≤ length moved → MoveReported bytes t w
     in-terms some = record {
       moved = moved-shown;
       some = λ v. rw (moved-shown v .table) some;
-      refused = λ number place h f.
-          let g = gives-refused tests number place h (decides (sound .tested) .refused number place h .1 f) in
-          record { table = s .table ∙ rw (g .1); refusal = s .refusal ∙ rw (g .1, g .2, g .3) };
+      refused = refusal-shown;
+      read-back = λ number place h f. rw (refusal-shown number place h f .refusal) (refusal-read number place);
     }
 
   module _ {r : Transfer} {after : List ℕ} (e : r ≡ transferOf Buffer bytes t (length out)) (g : after ≡ exitOf Buffer bytes t out) where

@@ -7,6 +7,7 @@ use Rattle.refusal.specs.Conditions.{First}
 use Rattle.taskset.specs.Table.{Table}
 use Rattle.taskset.specs.declared.Fields.{Fields}
 use Rattle.listing.specs.Lines.{refusalLine}
+use Rattle.listing.specs.ReadBack.{RefusalRead}
 use Rattle.movereport.specs.Output.{Shows}
 use Rattle.movereport.specs.declared.Moved.{Moved}
 
@@ -16,3 +17,5 @@ pub record MoveReported (bytes : Fields → List ℕ) (t : Table) (r : Moved) : 
   pub moved : t .Valid → Shows (bytes (t .fields)) [] r
   pub some : t .Valid → 1 ≤ length (shown (r .table))
   pub refused : (number place : ℕ) → 1 ≤ number → First (t .conditions) number place → Shows [] (refusalLine number place) r
+  -- That line is read back by the codes of its bytes.
+  pub read-back : (number place : ℕ) → 1 ≤ number → First (t .conditions) number place → RefusalRead number place (shown (r .refusal))

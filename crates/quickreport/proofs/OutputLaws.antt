@@ -23,7 +23,8 @@ use Rattle.text.proofs.ClipLaws.{append-both, append-whole}
 use Rattle.listing.specs.Lines.{tableLines}
 use Rattle.listing.specs.Printed.{printed}
 use Rattle.listing.proofs.PrintedLaws.{printed-same, in-terms}
-use Rattle.quickreport.specs.Output.{quickSummary, quickLines, quickOutputOf, Reported}
+use Rattle.quickreport.specs.Output.{quickSummary, quickLines, quickOutputOf, Reported, QuickReadBack}
+use Rattle.quickreport.proofs.BackLaws.{quick-read}
 
 pub summary-made : {t a b r : Text} (plan : QuickPlan) → Appended t (ascii "quick") 5 a
     → Appended a (field (plan .rejected)) 21 b → Appended b (ascii "\n") 1 r → Appended t (quickSummary plan) 27 r
@@ -50,8 +51,8 @@ output-is t =
     ap (λ o. printed o (quickLines (readingOf t .tasks) (quickOf t))) (quick-outcome t)
     ∙ printed-same (t .outcome) (λ e. ap₂ quickLines (read-tasks t refl (read-outcome t refl ∙ e)) (quick-accepted-is t e))
 
--- ---- from the reader's answer to the output: both clauses of `report`
+-- ---- from the reader's answer to the output: the clauses of `report`
 
-pub output-both : {t : Table} → Sound t → {x : List ℕ} → x ≡ printed (t .outcome) (quickLines (taskSetOf (t .fields)) (quickFor (t .fields)))
-    → (x ≡ quickOutputOf t) × Reported t x
-output-both {t} s e = (e ∙ sym (output-is t), in-terms s _ e)
+pub output-all : {t : Table} → Sound t → {x : List ℕ} → x ≡ printed (t .outcome) (quickLines (taskSetOf (t .fields)) (quickFor (t .fields)))
+    → (x ≡ quickOutputOf t) × (Reported t x × QuickReadBack t x)
+output-all {t} s e = let p = in-terms s _ e in (e ∙ sym (output-is t), (p, quick-read s p))

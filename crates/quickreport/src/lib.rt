@@ -3,7 +3,7 @@ ghost use mathlib.Core.Path.{_≡_};
 ghost use Prim.Native.Nat.{_≤_};
 ghost use Rattle.newform.specs.Limits.{new};
 ghost use Rattle.text.specs.Shown.{shown, Appended};
-ghost use Rattle.quickreport.specs.Output.{quickSummary, quickLines, quickOutputOf, Reported};
+ghost use Rattle.quickreport.specs.Output.{quickSummary, quickLines, quickOutputOf, Reported, QuickReadBack};
 use quick::QuickPlan;
 use refusal::Outcome;
 use taskset::TaskSet;
@@ -33,6 +33,7 @@ fn plan_report(t: TaskSet, plan: QuickPlan) -> Text
 pub fn report(table: &[u8]) -> Text
     ensures answer { λ r. ⌜ shown r ≡ quickOutputOf (new (now (table .entry))) ⌝ }
     ensures reported { λ r. ⌜ Reported (new (now (table .entry))) (shown r) ⌝ }
+    ensures read_back { λ r. ⌜ QuickReadBack (new (now (table .entry))) (shown r) ⌝ }
 {
     let reading = newform::read_new(table);
     let outcome = reading.outcome;

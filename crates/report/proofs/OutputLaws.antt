@@ -23,7 +23,8 @@ use Rattle.listing.specs.Lines.{tableLines}
 use Rattle.listing.specs.Printed.{printed}
 use Rattle.listing.proofs.PrintedLaws.{printed-same, in-terms}
 use Rattle.report.specs.Output.{summaryLine, planLines, outputOf}
-use Rattle.report.specs.Reported.{Reported}
+use Rattle.report.specs.Reported.{Reported, PlanReadBack}
+use Rattle.report.proofs.BackLaws.{plan-read}
 
 pub plan-whole : {t a r : Text} (s : TaskSet) (plan : Allocation) → shown t ≡ [] → Appended t (tableLines s (plan .placement)) 2085 a
     → Appended a (summaryLine plan) 50 r → shown r ≡ planLines s plan
@@ -43,8 +44,8 @@ output-is : (t : Table) → outputOf t ≡ printed (t .outcome) (planLines (task
 unfolding outputOf
 output-is t = rw (plan-outcome t 1000000) (printed-same (t .outcome) (λ e. rw (plan-accepted-is t 1000000 e, read-tasks t refl (read-outcome t refl ∙ e))))
 
--- ---- from the reader's answer to the output: both clauses of `report`
+-- ---- from the reader's answer to the output: the clauses of `report`
 
-pub output-both : {t : Table} → Sound t → {x : List ℕ} → x ≡ printed (t .outcome) (planLines (taskSetOf (t .fields)) (planFor (t .fields) 1000000))
-    → (x ≡ outputOf t) × Reported t x
-output-both {t} s e = (e ∙ sym (output-is t), in-terms s _ e)
+pub output-all : {t : Table} → Sound t → {x : List ℕ} → x ≡ printed (t .outcome) (planLines (taskSetOf (t .fields)) (planFor (t .fields) 1000000))
+    → (x ≡ outputOf t) × (Reported t x × PlanReadBack t x)
+output-all {t} s e = let p = in-terms s _ e in (e ∙ sym (output-is t), (p, plan-read s p))

@@ -4,7 +4,7 @@ ghost use Prim.Native.Nat.{_≤_};
 ghost use Rattle.newform.specs.Limits.{new};
 ghost use Rattle.text.specs.Shown.{shown, Appended};
 ghost use Rattle.report.specs.Output.{verdictWord, summaryLine, planLines, outputOf};
-ghost use Rattle.report.specs.Reported.{Reported};
+ghost use Rattle.report.specs.Reported.{Reported, PlanReadBack};
 use planner::Allocation;
 use planner::Verdict;
 use refusal::Outcome;
@@ -51,6 +51,7 @@ fn plan_report(t: TaskSet, plan: Allocation) -> Text
 pub fn report(table: &[u8]) -> Text
     ensures answer { λ r. ⌜ shown r ≡ outputOf (new (now (table .entry))) ⌝ }
     ensures reported { λ r. ⌜ Reported (new (now (table .entry))) (shown r) ⌝ }
+    ensures read_back { λ r. ⌜ PlanReadBack (new (now (table .entry))) (shown r) ⌝ }
 {
     let reading = newform::read_new(table);
     let outcome = reading.outcome;

@@ -1,7 +1,9 @@
 -- Numbers in decimal, in ASCII: the most significant digit first, and no zero in front.
 use Prim.Native.Nat.{ℕ, zero, suc, _+_, _/_, _%_}
+use mathlib.Core.Path.{_≡_}
 use mathlib.Core.List.{List, [], _∷_, _++_}
 use Rattle.text.specs.Ascii.{ascii}
+use Rattle.text.specs.Reader.{number, item}
 
 -- none for 0, and otherwise what `digits` gives
 unfoldable pub front : (ℕ → List ℕ) → ℕ → List ℕ
@@ -20,3 +22,7 @@ decimal x = digitsBy (suc x) x
 -- a space and a number
 unfoldable pub field : ℕ → List ℕ
 field x = ascii " " ++ decimal x
+
+-- Every number is read back from its digits.
+abbrev pub NumbersReadBack : Type 0
+NumbersReadBack = (x : ℕ) → item (decimal x) ≡ number x
