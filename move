@@ -1,18 +1,53 @@
-#!/usr/bin/env bash
-# Moves a table file between the two stored forms, to standard output: ./move tonew FILE fills in charge 0 and every
-# core, ./move toold FILE takes back exactly these; - is standard input. Where the table is refused, standard output is
-# empty, standard error says `refused NUMBER PLACE`, and the exit status is 1.
-set -euo pipefail
-if [ $# -ne 2 ] || { [ "$1" != tonew ] && [ "$1" != toold ]; }; then
-    echo "usage: $0 tonew|toold FILE" >&2
-    exit 2
-fi
-table=/dev/stdin
-[ "$2" = - ] || table=$(realpath -e -- "$2")
-cd "$(dirname "$0")"
-program=$(scripts/program "$1")
-moved=$(mktemp)
-trap 'rm -f "$moved"' EXIT
-"$program" < "$table" > "$moved"
-[ -s "$moved" ] || exit 1
-cat "$moved"
+#!/usr/bin/env python3
+"""usage: ./move tonew|toold IN [OUT]
+
+Moves a table between the two stored forms: tonew fills in charge 0 and every core, toold takes back
+exactly these. IN is a file, or - for standard input. OUT is written last and whole, or not at all,
+and may be IN; without it the moved table goes to standard output.
+
+Exit status: 0; 1 refused: nothing is written, standard error says `refused NUMBER PLACE` and what
+that is; 2 usage, input that cannot be read, a build that failed, output that could not be written."""
+import os
+import sys
+
+sys.dont_write_bytecode = True
+sys.path.insert(0, os.path.join(os.path.dirname(os.path.realpath(__file__)), "scripts"))
+
+import console
+import refusals
+
+
+def main(arguments):
+    direction, source, target = taken_apart(arguments)
+    stored = console.read(source)
+    moved, said = console.answer(direction, stored)
+    if not moved:
+        return refused(direction, stored, said)
+    if target is None:
+        console.write(moved)
+    else:
+        console.store(target, moved)
+    return console.DONE
+
+
+def taken_apart(arguments):
+    """Direction, input and output; the output is None where there is none."""
+    if len(arguments) not in (2, 3) or arguments[0] not in ("tonew", "toold"):
+        raise console.Usage
+    source, target = console.plain_file(arguments[1:2]), arguments[2] if arguments[2:] else None
+    if target is not None and (target == "" or target.startswith("-")):
+        raise console.Usage
+    return arguments[0], source, target
+
+
+def refused(direction, stored, said):
+    found = console.refusal(said)
+    if found is None:
+        raise console.Trouble(f"{direction} did not answer")
+    console.say(said.decode().strip())
+    back = direction == "toold"
+    console.say(refusals.line(refusals.Refused(*found, stored, form="new" if back else "old", back=back)))
+    return console.REFUSED
+
+
+console.script(__doc__, main)
