@@ -54,8 +54,9 @@ enum {
  *
  * The archive is for x86-64. It needs memcpy, takes less than 1,024 bytes of stack, has no heap and
  * no writable data, and may be called by several threads at once. The stack figure leaves out what a
- * dynamic loader takes where it binds memcpy at the first call: several kilobytes of the caller's
- * stack. Link statically or with -z now, or call memcpy before, where a stack is that small. */
+ * dynamic loader takes of the caller's stack where it binds memcpy at the first call: about 4,000
+ * bytes in all were measured. Where a stack is that small, link statically or with -z now, or call
+ * memcpy once before. */
 uint32_t millplan_plan(const uint8_t *table, size_t table_len, uint32_t limit,
                        uint8_t *plan, size_t plan_len);
 

@@ -1,6 +1,7 @@
 """What the scripts share beside tables: input, output, exit status, and the programs behind them."""
 
 import os
+import signal
 import subprocess
 import sys
 import tempfile
@@ -29,6 +30,8 @@ class Usage(Trouble):
 def script(usage, main):
     """Runs the main function of a script on its arguments, and ends with the status it returns."""
     keep_streams_apart()
+    for stop in (signal.SIGTERM, signal.SIGHUP):
+        signal.signal(stop, stopped)
     arguments = sys.argv[1:]
     try:
         if "-h" in arguments or "--help" in arguments:
@@ -45,6 +48,11 @@ def script(usage, main):
     except KeyboardInterrupt:
         status = INTERRUPTED
     sys.exit(status)
+
+
+def stopped(number, _):
+    """By a signal: what is half done is put away on the way out."""
+    sys.exit(128 + number)
 
 
 def keep_streams_apart():

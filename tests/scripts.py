@@ -107,6 +107,7 @@ def statuses(_, folder):
 
     for arguments in ([], ["a", "b"], ["--fast", "a"], ["--quick"], ["--quick", "a", "b"], ["-x"]):
         yield Case(["./run", *arguments], TROUBLE, said=["usage: ./run"])
+    yield Case(["./run", "--steps", "9", "examples/spent.table"], TROUBLE, said=["./explain --steps N"])
     for arguments in ([], ["tonew"], ["back", "a"], ["tonew", "-", "-"], ["tonew", "a", "b", "c"], ["tonew", "-x"],
                       ["toold", "a", ""]):
         yield Case(["./move", *arguments], TROUBLE, said=["usage: ./move"])
@@ -182,6 +183,8 @@ def refusals():
     yield 7, 4, b"cores 1\n997 1\n10 1\n20 1\n1009 1\n", ["makes it large"]
     yield 7, 2, b"cores 1\n10000 1\n9967 1\n9973 1\n", ["9967 (task 2) and 9973 (task 3) together make it large",
                                                         "near 9973: 5000 or 10000"]
+    gap = content("examples/gap.txt").replace(b"600 80", b"590 80")
+    yield 7, 16, gap, ["590 (task 7 (navigation update)) makes it large", "task 16", "10,000, or one another"]
     yield 2, 0, b"cores 1\n" + b"200 1\n" * 17, ["17", "join tasks of the same period"]
     yield 2, 0, b"cores 1\n", ["there is none"]
     yield 3, 0, b"cores 5\n10 1\n", ["it is 5"]
