@@ -151,8 +151,7 @@ def table_in(path):
     try:
         table = tabletext.table_of(data)
     except tabletext.Mistake as mistake:
-        note = " (this looks like a table: its name must not end in .txt)" if data[:1] == b"\0" else ""
-        raise Trouble(f"{mistake}{note}") from None
+        raise Trouble(str(mistake)) from None
     return tabletext.bytes_of(table), [task.name for task in table.tasks]
 
 

@@ -43,7 +43,7 @@ def text_alone(path):
     try:
         table = explained.named(tabletext.readable_table(stored), names)
     except tabletext.NoText as reason:
-        console.say(f"no text makes this table: {reason}")
+        console.say(f"no text makes this table: {refusals.slip(stored) or reason}")
         return console.REFUSED
     console.write(tabletext.text_of(table).encode())
     return console.DONE

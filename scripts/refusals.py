@@ -25,20 +25,20 @@ def words(refused):
     """What the number is and what it says of this table; then what to do, if that is known."""
     meaning, told = CAUSES.get(refused.number, ("see Refusals in README.md", nothing))
     found, advice = told(refused)
-    mixed_up = slip(refused)
+    mixed_up = slip(refused.stored, refused.form, refused.back)
     if mixed_up:
         found, advice = mixed_up, ""
     return f"{meaning})" + (f": {found}" if found else ""), advice
 
 
-def slip(refused):
-    """What the bytes are, where they are something else than the call takes."""
-    stored = refused.stored
+def slip(stored, form="new", back=False):
+    """What the bytes are, where they are something else than a table of this form, which is perhaps to
+    be moved back."""
     if stored and 0 not in stored:
         return A_TEXT
-    if refused.form == "new" and old_form(stored):
-        return OLD_ALREADY if refused.back else AN_OLD_TABLE
-    if refused.form == "old" and new_form(stored):
+    if form == "new" and old_form(stored):
+        return OLD_ALREADY if back else AN_OLD_TABLE
+    if form == "old" and new_form(stored):
         return NEW_ALREADY
     return ""
 

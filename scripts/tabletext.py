@@ -47,6 +47,8 @@ def printable(text, most=60):
 
 def table_of(text):
     """The table that this text, as bytes, describes, or a Mistake."""
+    if text.startswith(b"\0"):
+        raise Mistake(1, "these bytes begin like a table, and not like a text")
     cores, charge, tasks, last = None, None, [], 0
     for last, line in enumerate(unmarked(text).splitlines(), 1):
         content, _, comment = line.partition(b"#")

@@ -342,7 +342,7 @@ def round_trips(rng, folder):
         yield Case(f"./explain --text {made(join(folder, str(k)), table)} | ./maketable", DONE, table)
     whole = content("examples/watch.table")
     for table in (b"", whole[:3], whole[:-1], whole + b"\0", b"\1" + whole[1:], content("examples/old/watch.table"),
-                  whole[:-1] + b"\0", whole[:-3] + b"\0\1\2"):
+                  whole[:-1] + b"\0", whole[:-3] + b"\0\1\2", content("examples/watch.txt")):
         yield Case(["./explain", "--text", "-"], REFUSED, b"", ["no text makes this table"], given=table)
 
 
