@@ -11,6 +11,7 @@ from glob import glob
 from os.path import abspath, dirname, join, relpath
 
 ROOT = dirname(dirname(abspath(__file__)))
+SNIPPET = join(ROOT, "tests", "firmware", "snippet.c")
 DOCUMENTS = ["README.md", "docs/*.md", "examples/README.md", "tests/README.md", "bench/README.md"]
 FENCE = re.compile(r"^```([^\n]*)\n(.*?)^```$", re.M | re.S)
 INDENTED = re.compile(r"(?:^    .*\n)(?:^(?:    .*)?\n)*", re.M)
@@ -27,7 +28,7 @@ def main():
         plain = [("", block) for block in INDENTED.findall(FENCE.sub("", text))]
         for info, block in blocks + plain:
             if info == "c":
-                must(block == content(join(ROOT, "tests/firmware/snippet.c")), name, block, "snippet.c has")
+                must(block == content(SNIPPET), name, block, "snippet.c has")
                 counts[0] += 1
             elif info == "rust" or not info and RATTLE.search(block):
                 must(any(within(lines(block), file) for file in code), name, block, "a crate has")
