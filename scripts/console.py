@@ -1,4 +1,4 @@
-"""What the scripts share beside tables: input, output, exit status, and the programs behind them."""
+"""What the scripts share beside tables: input, output, exit status, the programs behind them."""
 
 import os
 import signal
@@ -94,8 +94,8 @@ def read(path):
 
 
 def store(path, data):
-    """All of it in a file, which is then as it was or holds all of it; or Trouble. What is no plain file,
-    as a device or a pipe, is written to."""
+    """All of it in a file, or Trouble; the file then holds all of it or is as it was. What is no
+    plain file, as a device or a pipe, is written to."""
     path = os.path.realpath(path)
     try:
         if os.path.exists(path) and not os.path.isfile(path):
@@ -157,8 +157,9 @@ def table_in(path):
 
 def program(name):
     """The path of a program, built where that is due. What went wrong, the build has said."""
-    made = subprocess.run([os.path.join(ROOT, "scripts", "program"), name], stdin=subprocess.DEVNULL,
-                          stdout=subprocess.PIPE, check=False)
+    finder = os.path.join(ROOT, "scripts", "program")
+    made = subprocess.run([finder, name], stdin=subprocess.DEVNULL, stdout=subprocess.PIPE,
+                          check=False)
     if made.returncode != 0:
         raise Trouble
     return os.path.join(ROOT, made.stdout.decode().strip())

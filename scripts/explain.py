@@ -9,8 +9,8 @@ input.
 --text     prints the text alone, from which ./maketable makes the same bytes
 
 Exit status: that of ./run for the plan: 0 every task has a core; 3 short; 4 spent; 1 refused;
-2 usage, input that cannot be read, a mistake in a text, a build that failed, output that could not be
-written. With --text: 0; 1 no text makes these bytes; 2 as before."""
+2 usage, input that cannot be read, a mistake in a text, a build that failed, output that could not
+be written. With --text: 0; 1 no text makes these bytes; 2 as before."""
 
 import console
 import explained

@@ -1,4 +1,4 @@
-"""What a table and its plan say: loads, tasks by name, what is left out, the verdict, what to do."""
+"""What a table and its plan say: loads, tasks by name, what is left out, verdict, what to do."""
 
 from collections import namedtuple
 from fractions import Fraction
@@ -32,9 +32,9 @@ def named(table, names):
 
 
 def refusal_lines(refused):
-    found, advice = refusals.words(refused)
+    cause, advice = refusals.words(refused)
     yield f"refused {refused.number} {refused.place}"
-    yield f"Nothing is planned: number {refused.number} ({found}."
+    yield f"Nothing is planned: {cause}."
     if advice:
         yield f"What to do: {advice}."
 
@@ -71,13 +71,15 @@ class Weighed:
 
 def load_lines(table, plan, tasks):
     whole = plan.hyperperiod
-    yield f"Loads are in parts of {whole:,}, the hyperperiod: the least common multiple of the periods."
+    yield (f"Loads are in parts of {whole:,}, the hyperperiod: the least common multiple of the "
+           f"periods.")
     if table.charge:
         yield f"Each task weighs its time plus the charge of {many(table.charge, 'tick')}."
     for core in range(1, table.cores + 1):
         on = [task for task in tasks if task.core == core]
         load = sum(task.weight for task in on)
-        yield f"core {core}: {load:,} of {parts(whole, whole, load)}" + ("" if on else ", no task")
+        yield (f"core {core}: {load:,} of {many_parts(whole)}, {percent(load, whole)}"
+               + ("" if on else ", no task"))
         yield from (task.line() for task in on)
     out = [task for task in tasks if task.core == 0]
     if out:
@@ -87,8 +89,12 @@ def load_lines(table, plan, tasks):
         yield "left out: nothing"
 
 
-def parts(weight, whole, of=None):
-    return f"{weight:,} {'part' if weight == 1 else 'parts'}, {percent(weight if of is None else of, whole)}"
+def parts(weight, whole):
+    return f"{many_parts(weight)}, {percent(weight, whole)}"
+
+
+def many_parts(weight):
+    return f"{weight:,} part" + ("" if weight == 1 else "s")
 
 
 def percent(weight, whole):
@@ -123,8 +129,9 @@ def said_spent(table, plan, tasks, again):
 
 def without_core(tasks):
     out = [task.called() for task in tasks if task.core == 0]
-    return (f"{len(out)} of {many(len(tasks), 'task')} {'has' if len(out) == 1 else 'have'} no core and "
-            f"will not run: {joined(out)}.")
+    has = "has" if len(out) == 1 else "have"
+    return (f"{len(out)} of {many(len(tasks), 'task')} {has} no core and will not run: "
+            f"{joined(out)}.")
 
 
 def how_to_fit(table, plan, tasks):
@@ -138,15 +145,15 @@ def how_to_fit(table, plan, tasks):
         ways.append(f"take a board with more than {many(table.cores, 'core')}")
     ways = f"{', '.join(ways[:-1])} or {ways[-1]}"
     if total > room:
-        return (f"{weighed}, so at least {parts(total - room, plan.hyperperiod)} of a core, must go: "
-                f"{ways}.")
+        above = parts(total - room, plan.hyperperiod)
+        return f"{weighed}, so at least {above} of a core, must go: {ways}."
     return f"{weighed}, but the cores that each may use cannot take them all: {ways}."
 
 
 def how_to_search_on(plan, again):
     if plan.steps < LARGEST_LIMIT:
-        return (f"search on with a larger limit, ./explain --steps {LARGEST_LIMIT} {quote(again)}, which may "
-                f"take half a minute; or plan fewer tasks.")
+        return (f"search on with a larger limit, ./explain --steps {LARGEST_LIMIT} {quote(again)}, "
+                f"which may take half a minute; or plan fewer tasks.")
     return "this is the largest limit; plan fewer tasks."
 
 

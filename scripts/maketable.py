@@ -1,11 +1,11 @@
 """usage: ./maketable [FILE]
 
-Turns a text into the bytes of a table of the new form, on standard output: ./maketable TEXT > TABLE.
-The text is standard input if no file is named, or -.
+Turns a text into the bytes of a table of the new form, on standard output, as in
+./maketable TEXT > TABLE. The text is standard input if no file is named, or -.
 
 The text: a line `cores M`; then, on a board that loses time when a job is taken up, a line
-`charge C`; then for each task a line `PERIOD TIME`, or `PERIOD TIME on 1,3` if it may use only cores
-1 and 3. `#` begins a comment. Whether the numbers are within the limits is the planner's to say.
+`charge C`; then for each task a line `PERIOD TIME`, or `PERIOD TIME on 1,3` if it may use only
+cores 1 and 3. `#` begins a comment. Whether the numbers are within the limits, the planner says.
 
 Exit status: 0; 1 a mistake in the text, which standard error names by its line; 2 usage, input that
 cannot be read, output that could not be written."""

@@ -5,7 +5,8 @@ exactly these. IN is a file, or - for standard input. OUT is written last and wh
 and may be IN; without it the moved table goes to standard output.
 
 Exit status: 0; 1 refused: nothing is written, standard error says `refused NUMBER PLACE` and what
-that is; 2 usage, input that cannot be read, a build that failed, output that could not be written."""
+that means; 2 usage, input that cannot be read, a build that failed, output that could not be
+written."""
 
 import console
 import refusals
@@ -39,8 +40,8 @@ def refused(direction, stored, said):
     if found is None:
         raise console.Trouble(f"{direction} did not answer")
     console.say(said.decode().strip())
-    back = direction == "toold"
-    console.say(refusals.line(refusals.Refused(*found, stored, form="new" if back else "old", back=back)))
+    form, back = ("new", True) if direction == "toold" else ("old", False)
+    console.say(refusals.line(refusals.Refused(*found, stored, form=form, back=back)))
     return console.REFUSED
 
 

@@ -1,4 +1,4 @@
-"""The exact plan of a table: by `millplan`, whose limit is that of ./run, or by `cases` with another."""
+"""The exact plan of a table: by `millplan` with the limit of ./run, or by `cases` with another."""
 
 import console
 from explained import USUAL_LIMIT, Plan
@@ -21,7 +21,8 @@ def plan(stored):
     if refused:
         raise Refusal(*refused)
     first, *tasks, last = [line.split() for line in printed.decode().splitlines()]
-    return Plan(last[0], int(last[1]), int(last[2]), int(first[3]), [int(task[3]) for task in tasks])
+    verdict, left, steps = last[0], int(last[1]), int(last[2])
+    return Plan(verdict, left, steps, int(first[3]), [int(task[3]) for task in tasks])
 
 
 def plan_within(stored, limit):

@@ -11,14 +11,13 @@ LARGEST_MULTIPLE = 1_000_000
 
 A_TEXT = "these bytes look like a text: ./maketable TEXT > TABLE makes a table of it"
 AN_OLD_TABLE = "this is a table of the old form: ./move tonew OLD NEW makes a new one of it"
-OLD_ALREADY = "this is a table of the old form already, as ./move tonew takes it; no move back is due"
+OLD_ALREADY = "this is a table of the old form already; only ./move tonew takes it"
 NEW_ALREADY = "this is a table of the new form already, and needs no move"
 
 
 def line(refused):
     """The one line that stands on standard error beside a refusal."""
-    found, advice = words(refused)
-    return f"number {refused.number} ({found}" + (f"; {advice}" if advice else "")
+    return "; ".join(filter(None, words(refused)))
 
 
 def words(refused):
@@ -28,12 +27,12 @@ def words(refused):
     mixed_up = slip(refused.stored, refused.form, refused.back)
     if mixed_up:
         found, advice = mixed_up, ""
-    return f"{meaning})" + (f": {found}" if found else ""), advice
+    return f"number {refused.number} ({meaning})" + (f": {found}" if found else ""), advice
 
 
 def slip(stored, form="new", back=False):
-    """What the bytes are, where they are something else than a table of this form, which is perhaps to
-    be moved back."""
+    """What the bytes are, where they are something else than a table of this form. back: whether it
+    was to be moved back."""
     if stored and 0 not in stored:
         return A_TEXT
     if form == "new" and old_form(stored):
@@ -44,8 +43,8 @@ def slip(stored, form="new", back=False):
 
 
 class Refused:
-    """A refusal, and what the words need of the table. form: the one that the call takes; back: whether
-    the table was to be moved back."""
+    """A refusal, and what the words need of the table. form: the one that the call takes; back:
+    whether the table was to be moved back."""
 
     def __init__(self, number, place, stored, names=(), form="new", back=False):
         self.number, self.place, self.stored, self.names = number, place, stored, names
@@ -78,7 +77,8 @@ class Refused:
 def too_short(r):
     if not r.stored:
         return "the input is empty", "give a table, or a text whose name ends in .txt"
-    return f"{many(len(r.stored), 'byte')}, and every table of the {r.form} form has at least {r.head}", ""
+    return (f"{many(len(r.stored), 'byte')}, and every table of the {r.form} form has at least "
+            f"{r.head}", "")
 
 
 def first_byte(r):
@@ -97,8 +97,8 @@ def core_count(r):
 
 
 def length(r):
-    return (f"{many(len(r.stored), 'byte')}, and a table of {many(r.sizes[0], 'task')} in the {r.form} "
-            f"form has {r.length()}", "")
+    return (f"{many(len(r.stored), 'byte')}, and a table of {many(r.sizes[0], 'task')} in the "
+            f"{r.form} form has {r.length()}", "")
 
 
 def charge(r):
@@ -118,8 +118,8 @@ def budget(r):
 
 
 def cost(r):
-    return (f"{r.task()} has time {r.time()} and period {r.period()}, and the charge is {r.stored[3]}",
-            "give it a longer period or less time")
+    return (f"{r.task()} has time {r.time()} and period {r.period()}, and the charge is "
+            f"{r.stored[3]}", "give it a longer period or less time")
 
 
 def affinity(r):
@@ -153,7 +153,7 @@ def hyperperiod(r):
     found = (f"the least common multiple of the periods is {size(multiple(periods))}; "
              f"{owners(r, periods, named)} {'makes' if len(named) == 1 else 'make'} it large")
     if rest:
-        found += f" (without {'it' if len(named) == 1 else 'them'}: {size(multiple(rest))})"
+        found += f" ({size(multiple(rest))} without {'it' if len(named) == 1 else 'them'})"
     if r.period() not in named:
         found += f", and {r.task()} of period {r.period()} is only the first at which it passes"
     near = fitting(named, rest)
@@ -183,8 +183,10 @@ def large_periods(periods):
 
 def owners(r, periods, named):
     """Periods with the tasks that have them."""
-    tasks = [[r.task(k) for k, other in enumerate(periods, 1) if other == period] for period in named]
-    shown = [f"{period} ({joined(owning)})" for period, owning in zip(named, tasks)]
+    def owning(period):
+        return joined(r.task(k) for k, other in enumerate(periods, 1) if other == period)
+
+    shown = [f"{period} of {owning(period)}" for period in named]
     return f"period {shown[0]}" if len(named) == 1 else f"periods {joined(shown)} together"
 
 
@@ -222,9 +224,9 @@ def many(count, thing):
     return f"{count} {thing}" + ("" if count == 1 else "s")
 
 
-def joined(words_):
-    words_ = list(map(str, words_))
-    return words_[0] if len(words_) == 1 else ", ".join(words_[:-1]) + " and " + words_[-1]
+def joined(things):
+    *first, last = map(str, things)
+    return f"{', '.join(first)} and {last}" if first else last
 
 
 def listed(thing, numbers):

@@ -13,7 +13,7 @@ import refusals
 
 def main(arguments):
     if arguments[:1] == ["--steps"]:
-        raise console.Trouble("./run has the usual step limit; ./explain --steps N FILE plans with another")
+        raise console.Trouble("./run has the usual limit; ./explain --steps N FILE takes another")
     quick = arguments[:1] == ["--quick"]
     stored, names = console.table_in(console.plain_file(arguments[quick:]))
     plan, _ = console.answer("quickplan" if quick else "millplan", stored)

@@ -1,9 +1,9 @@
 """A table and the text that makes it. The text: a line `cores M`; then, on a board that loses time
 when a job is taken up, a line `charge C`, which is 0 if there is none; then for each task a line
-`PERIOD TIME`, or `PERIOD TIME on 1,3` if it may use only cores 1 and 3. `#` begins a comment, in any
-encoding; on a task's line it is the task's name. Whether the numbers are within the planner's limits,
-and whether the cores exist, is the planner's to say; a mistake here is a line that is not of this
-form, or a number that the table has no room for. A core byte has room for cores 1 to 8."""
+`PERIOD TIME`, or `PERIOD TIME on 1,3` if it may use only cores 1 and 3. `#` begins a comment, in
+any encoding; on a task's line it is the task's name. Whether the numbers are within the limits, and
+whether the cores exist, is the planner's to say; a mistake here is a line that is not of this form,
+or a number that the table has no room for. A core byte has room for cores 1 to 8."""
 
 from collections import namedtuple
 
@@ -90,7 +90,7 @@ def number(word, most, line):
         raise Mistake(line, f"`{printable(word)}` is no number")
     word = word.lstrip("0") or "0"
     if len(word) > len(str(most)) or int(word) > most:
-        raise Mistake(line, f"{printable(word)} is above {most}, the most that a table has room for")
+        raise Mistake(line, f"{printable(word)} is above {most}, the most a table has room for")
     return int(word)
 
 
@@ -174,5 +174,7 @@ def text_of(table):
 
 
 def task_line(task, cores):
-    tied = "" if task.cores == every_core(cores) else " on " + ",".join(map(str, cores_of(task.cores)))
-    return f"{task.period} {task.time}{tied}"
+    line = f"{task.period} {task.time}"
+    if task.cores == every_core(cores):
+        return line
+    return f"{line} on {','.join(map(str, cores_of(task.cores)))}"

@@ -51,15 +51,15 @@ def refused_texts(folder):
 def texts():
     """Number, place, text, and what the words must say."""
     yield 7, 3, b"cores 2\n10 1 # loop\n167 1 # display\n10000 1 # log\n", [
-        "167 (task 2 (display)) makes it large", "task 3 (log)", "only the first",
+        "167 of task 2 (display) makes it large", "task 3 (log)", "only the first",
         "10,000, or one another", "166 or 168"]
     # A published set with its own period, which examples/gap.txt rounds.
     yield 7, 16, content("examples/gap.txt").replace(b"600 80", b"590 80"), [
-        "590 (task 7 (navigation update)) makes it large", "task 16", "10,000, or one another"]
+        "590 of task 7 (navigation update) makes it large", "task 16", "10,000, or one another"]
     yield 7, 2, b"cores 1\n10000 1\n6144 1\n3072 1\n1536 1\n768 1\n", [
-        "10000 (task 1) makes it large", "6,144"]
+        "10000 of task 1 makes it large", "6,144"]
     yield 7, 2, b"cores 1\n10000 1\n9967 1\n9973 1\n", [
-        "9967 (task 2) and 9973 (task 3) together make it large", "near 9973: 5000 or 10000"]
+        "9967 of task 2 and 9973 of task 3 together make it large", "near 9973: 5000 or 10000"]
     yield 7, 4, b"cores 1\n997 1\n10 1\n20 1\n1009 1\n", ["makes it large"]
     yield 2, 0, b"cores 1\n" + b"200 1\n" * 17, ["17", "join tasks of the same period"]
     yield 2, 0, b"cores 1\n", ["there is none"]
