@@ -4,7 +4,6 @@ import os
 import signal
 import subprocess
 import sys
-import tempfile
 
 import tabletext
 
@@ -109,25 +108,17 @@ def store(path, data):
 
 def replace(path, data):
     """By a file beside it, which takes its name once it is whole."""
-    mode = os.stat(path).st_mode & 0o7777 if os.path.exists(path) else None
-    handle, beside = tempfile.mkstemp(prefix=".moved-", dir=os.path.dirname(path))
-    try:
+    beside = os.path.join(os.path.dirname(path), f".moved-{os.getpid()}")
+    with open(beside, "xb", buffering=0) as target:
         try:
-            put(handle, data)
-            os.fchmod(handle, 0o666 & ~umask() if mode is None else mode)
-            os.fsync(handle)
-        finally:
-            os.close(handle)
-        os.replace(beside, path)
-    except BaseException:
-        os.unlink(beside)
-        raise
-
-
-def umask():
-    mask = os.umask(0)
-    os.umask(mask)
-    return mask
+            put(target.fileno(), data)
+            if os.path.exists(path):
+                os.chmod(beside, os.stat(path).st_mode & 0o7777)
+            os.fsync(target.fileno())
+            os.replace(beside, path)
+        except BaseException:
+            os.unlink(beside)
+            raise
 
 
 def put(stream, data):
