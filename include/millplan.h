@@ -42,8 +42,8 @@ enum {
  * table_len  number of table bytes.
  * limit      most steps the search may take; 1,000,000 is usual, and where every task may use every
  *            core always enough for up to 16, 12, 10 and 9 tasks on 1, 2, 3 and 4 cores. A tighter
- *            limit is safe: the answer then says that it ran out. README.md says which limit never
- *            runs out.
+ *            limit is safe: the answer then says that it ran out. docs/CALLING.md says which limit
+ *            never runs out.
  * plan       receives n bytes: for each task, in table order, its core from 1, or 0 if it is
  *            left out. Must not overlap the table; may be NULL if it has no bytes.
  * plan_len   number of bytes at plan, at least n. Bytes after the first n keep their values.
@@ -53,7 +53,10 @@ enum {
  * nothing is written.
  *
  * The archive is for x86-64. It needs memcpy, takes less than 1,024 bytes of stack, has no heap and
- * no writable data, and may be called by several threads at once. */
+ * no writable data, and may be called by several threads at once. The stack figure leaves out what a
+ * dynamic loader takes of the caller's stack where it binds memcpy at the first call: about 4,000
+ * bytes in all were measured. Where a stack is that small, link statically or with -z now, or call
+ * memcpy once before. */
 uint32_t millplan_plan(const uint8_t *table, size_t table_len, uint32_t limit,
                        uint8_t *plan, size_t plan_len);
 

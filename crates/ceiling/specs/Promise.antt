@@ -51,7 +51,7 @@ freeCeiling m n = sumFromOne (λ k. productFromOne (λ j. min j m + 1) k) n
 abbrev pub fourCeilings : ℕ → List ℕ
 fourCeilings m = freeCeiling m 4 ∷ freeCeiling m 8 ∷ freeCeiling m 12 ∷ freeCeiling m 16 ∷ []
 
--- Worked out: the numbers of README's table, by the number of cores.
+-- Worked out: the numbers of the table in docs/CALLING.md, by the number of cores.
 pub record Worked : Type 0 where
   pub one : fourCeilings 1 ≡ 30 ∷ 510 ∷ 8190 ∷ 131070 ∷ []
   pub two : fourCeilings 2 ≡ 80 ∷ 6560 ∷ 531440 ∷ 43046720 ∷ []
