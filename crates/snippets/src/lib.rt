@@ -3,6 +3,7 @@ ghost use mathlib.Core.Path.{_≡_};
 ghost use mathlib.Core.List.{[], _∷_};
 ghost use mathlib.Core.Logic.{_≢_};
 ghost use Prim.Native.Nat.{_≤_, min};
+ghost use Rattle.oldform.specs.Limits.{beside};
 ghost use Rattle.planner.specs.Plan.{planOf};
 ghost use Rattle.planner.specs.declared.Verdict.the-variants.{Spent};
 ghost use Rattle.ceiling.specs.Ceiling.{ceilingOf};
@@ -13,8 +14,8 @@ use runner::Ticked;
 
 // The plan with the step ceiling as the limit, or with the largest limit there is: not spent, if the ceiling is a limit.
 pub fn plan_within_ceiling(table: &[u8], charge: u32, cores: &[u8]) -> Allocation
-    ensures answer { λ r. ⌜ r ≡ planOf (now (table .entry)) charge (now (cores .entry)) (min (ceilingOf (now (table .entry)) charge (now (cores .entry)) .ceiling) 4294967295) ⌝ }
-    ensures unspent { λ r. ⌜ (ceilingOf (now (table .entry)) charge (now (cores .entry)) .ceiling ≤ 4294967295 → r .verdict ≢ Spent) ⌝ }
+    ensures answer { λ r. ⌜ r ≡ planOf (beside (now (table .entry)) charge (now (cores .entry))) (min (ceilingOf (beside (now (table .entry)) charge (now (cores .entry))) .ceiling) 4294967295) ⌝ }
+    ensures unspent { λ r. ⌜ (ceilingOf (beside (now (table .entry)) charge (now (cores .entry))) .ceiling ≤ 4294967295 → r .verdict ≢ Spent) ⌝ }
 {
     let most = ceiling::step_ceiling(table, charge, cores).ceiling;
     let limit = if most <= 4294967295 {
@@ -41,7 +42,7 @@ pub fn first_tick(table: &[u8], cores: &[u8], n: usize, requests: [u32; 16]) -> 
 
 // The plan of five tasks, the first tied to core 2 and the fourth to core 1.
 pub fn tied_plan(table: &[u8]) -> Allocation
-    ensures { λ r. ⌜ r ≡ planOf (now (table .entry)) 0 (2 ∷ 3 ∷ 3 ∷ 1 ∷ 3 ∷ []) 1000000 ⌝ }
+    ensures { λ r. ⌜ r ≡ planOf (beside (now (table .entry)) 0 (2 ∷ 3 ∷ 3 ∷ 1 ∷ 3 ∷ [])) 1000000 ⌝ }
 {
     let cores = [2u8, 3, 3, 1, 3];
     let plan = planner::plan(table, 0, &cores[..], 1000000);

@@ -7,7 +7,7 @@ use Rattle.snippets.proofs.first_tick.Statement.{statement}
 use Rattle.snippets.proofs.first_tick.Tie as tie
 
 array-share-prefix-placement : tie.Need-array-share-prefix-placement
-array-share-prefix-placement c = rw (c .before .plan .ensures .0, plan-long _ _ _ _) (c .before .before .before .before .pre)
+array-share-prefix-placement c = rw (c .before .plan .ensures .0, plan-long _ _) (c .before .before .before .before .pre)
 
 slice-aggregate-fresh : tie.Need-slice-aggregate-fresh
 slice-aggregate-fresh c = sym (length-take-le _ _ (array-share-prefix-placement (c .before)))

@@ -8,7 +8,7 @@ use Rattle.snippets.proofs.plan_within_ceiling.Tie as tie
 
 returns : tie.Need-returns
 returns c =
-    within _ _ _ (c .before .before .step-ceiling .ensures .0) (c .before .before .step-ceiling .ensures .1 .1 .0)
+    within _ (c .before .before .step-ceiling .ensures .0) (c .before .before .step-ceiling .ensures .1 .1)
     (⊎-elim (λ w. omega arith) (λ w. omega arith) (c .before .if1 .came)) (c .plan .ensures .0)
 
 pub plan-within-ceiling-spec : {M : Type 1} → statement M
