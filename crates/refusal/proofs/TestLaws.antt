@@ -40,11 +40,6 @@ pub then-refused : (a b : Outcome) (c : Cause) → a ≡ Refused c → a then b 
 unfolding _then_
 then-refused a b c e = rw e
 
-pub then-assoc : (a b c : Outcome) → (a then b) then c ≡ a then (b then c)
-unfolding _then_
-then-assoc Accepted b c = refl
-then-assoc (Refused d) b c = refl
-
 -- a test whose condition is computed
 pub refuseIf-accepted : (t : Bool) (c : Cause) → refuseIf t c ≡ Accepted → t ≡ false
 unfolding refuseIf

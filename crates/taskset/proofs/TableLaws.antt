@@ -10,7 +10,7 @@ use Rattle.refusal.specs.declared.Cause.{Cause}
 use Rattle.refusal.specs.declared.Outcome.{Outcome}
 use Rattle.refusal.specs.declared.Outcome.the-variants.{Accepted}
 use Rattle.refusal.proofs.TestLaws.{outcome-cases, inOrder-append, then-accepted, then-refused, by-accepted, by-refused, by-both}
-use Rattle.refusal.proofs.ConditionLaws.{then-reports, none-append, join, room-tested, decides, accepts}
+use Rattle.refusal.proofs.ConditionLaws.{then-reports, none-append, join-after, room-tested, decides, accepts}
 use Rattle.taskset.specs.Tests.{sizeTests, limitTests, fieldsOutcome}
 use Rattle.taskset.specs.Reading.{taskSetOf, refusedReading, acceptedReading, readingBy}
 use Rattle.taskset.specs.Limits.{Sized, Within, limits, Reads}
@@ -31,14 +31,12 @@ after-tested f {cs = cs} sized t = record {
   );
 }
 
--- the step of a reader: fields that were decoded, tests of the stored form, then the limits
-pub read-after : (shape : Fields → Outcome) {f g : Fields} {o : Outcome} {r : Reading} → r ≡ readingBy (o then inOrder (limitTests g)) g → o ≡ shape g → g ≡ f
-    → r ≡ readingBy (shape f then inOrder (limitTests f)) f
-read-after shape h p e = h ∙ rw (p, e)
+-- A call's own tests behind those of a sound table; they may take for granted that it is valid.
+pub also-after : {t : Table} {tests : Outcome} {Good : Type 0} {more : List Condition} → Sound t → (t .Valid → Tested Good more tests) → Sound (also t tests Good more)
+also-after s h = record { tested = join-after (s .tested) (λ n. h (s .tested .valid .0 n)); within = λ v. s .within (v .0) }
 
--- A call's own tests behind those of a sound table.
 pub also-sound : {t : Table} {tests : Outcome} {Good : Type 0} {more : List Condition} → Sound t → Tested Good more tests → Sound (also t tests Good more)
-also-sound s h = record { tested = join (s .tested) h; within = λ v. s .within (v .0) }
+also-sound s h = also-after s (λ v. h)
 
 -- A lent output behind a sound table.
 pub lent-sound : {t : Table} → Sound t → (cause : Cause) → placeOf cause ≡ 0 → (size room : ℕ) → Sound (lent cause (numberOf cause) t size room)

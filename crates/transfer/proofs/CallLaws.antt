@@ -12,7 +12,7 @@ use Rattle.refusal.specs.declared.Cause.the-variants.{Buffer}
 use Rattle.refusal.specs.declared.Outcome.{Outcome}
 use Rattle.refusal.specs.declared.Outcome.the-variants.{Accepted}
 use Rattle.refusal.proofs.TestLaws.{then-accepted}
-use Rattle.refusal.proofs.ConditionLaws.{unnamed, join-after, decides, accepts}
+use Rattle.refusal.proofs.ConditionLaws.{unnamed, decides, accepts}
 use Rattle.taskset.specs.Fields.{Free, cut}
 use Rattle.taskset.specs.Tests.{fieldsOutcome}
 use Rattle.taskset.specs.Reading.{acceptedReading, readingBy}
@@ -21,7 +21,7 @@ use Rattle.taskset.specs.Table.{Table, bare, also, lent, readingOf, Decided, So
 use Rattle.taskset.specs.declared.Fields.{Fields}
 use Rattle.taskset.specs.declared.Reading.{Reading}
 use Rattle.taskset.proofs.LimitLaws.{row-every, fields-tested}
-use Rattle.taskset.proofs.TableLaws.{table-accepts, valid-reading, read-outcome, read-fields, read-reads, also-reading}
+use Rattle.taskset.proofs.TableLaws.{also-after, table-accepts, valid-reading, read-outcome, read-fields, read-reads, also-reading}
 use Rattle.oldform.specs.Form.{taskCount, besideFields, everyAffinity, aloneFields, oldBytes, OldForm}
 use Rattle.oldform.specs.Limits.{ValidBeside, alone}
 use Rattle.oldform.proofs.FormLaws.{every-affinity}
@@ -149,10 +149,7 @@ read-written s small v = yields Buffer newBytes (written-sound (newFields s)) (v
 module _ (s : List ℕ) where
   pub returned-sound : Sound (returned s)
   unfolding returned
-  returned-sound = record {
-    tested = join-after (new-sound s .tested) (λ n. filling-tested (new s .fields) (new-sound s .within (new-sound s .tested .valid .0 n)));
-    within = λ v. new-sound s .within (v .0);
-  }
+  returned-sound = also-after (new-sound s) (λ v. filling-tested (new s .fields) (new-sound s .within v))
 
   pub returning : Storable oldBytes (OldForm (new s .fields)) (2 + 8 * getD s 1 0) (returned s)
   unfolding returned new newFields
