@@ -24,50 +24,6 @@ use Rattle.edf.specs.Slots.{slotAt, slotTest, firstSlot, cannotBe, firstWrong, 
 use Rattle.edf.proofs.StepLaws.{allowed}
 use Rattle.runner.specs.Records.{ValidRecord, recordConditions}
 
--- The test as its program makes it, with the budget's remainder by 65,536.
-module _ (charge : ℕ) (s : Slot) where
-  -- the remainder and the charge
-  abbrev cost : ℕ
-  cost = s .budget % 65536 + charge
-
-  shorten : (x y z : Bool) → (y ≡ true → z ≡ true) → (x || y || z) ≡ (x || z)
-  shorten true y z h = refl
-  shorten false true z h = sym (h refl)
-  shorten false false z h = refl
-
-  -- a budget that is not its remainder is above the period, or the period is above 10,000
-  ranges-by : (ltb 10000 (s .period) || eqb (s .budget) 0 || ltb (s .period) (s .budget) || ltb (s .period) cost || leb (s .period) (s .until) || ltb cost (s .remaining))
-      ≡ (ltb 10000 (s .period) || eqb (s .budget) 0 || ltb (s .period) (s .budget + charge) || leb (s .period) (s .until) || ltb (s .budget + charge) (s .remaining))
-  ranges-by =
-      by-cases (decLt (s .budget) 65536)
-      (λ h. let same : s .budget % 65536 ≡ s .budget = mod-eq-of-lt h in
-      rw same
-      (ap (λ x. x || leb (s .period) (s .until) || ltb (s .budget + charge) (s .remaining))
-      (shorten (ltb 10000 (s .period) || eqb (s .budget) 0) (ltb (s .period) (s .budget)) (ltb (s .period) (s .budget + charge))
-      (λ t. lt-ltb (s .period) (s .budget + charge) (omega (arith, ltb-true (s .period) (s .budget) t))))))
-      (λ h. by-cases (decLt 10000 (s .period))
-      (λ g. rw (lt-ltb 10000 (s .period) g))
-      (λ g. rw (
-        le-ltb 10000 (s .period) (omega arith),
-        ne-eqb (s .budget) 0 (λ z. omega arith),
-        lt-ltb (s .period) (s .budget) (omega arith),
-        lt-ltb (s .period) (s .budget + charge) (omega arith),
-      )))
-
-  -- where the period is 0, the release is out of range
-  pub cannot-be-by : ((not (eqb (s .period) 0) || not (eqb (s .budget) 0) || not (eqb (s .until) 0) || not (eqb (s .remaining) 0))
-      && (ltb 10000 (s .period) || eqb (s .budget) 0 || ltb (s .period) (s .budget) || ltb (s .period) cost || leb (s .period) (s .until) || ltb cost (s .remaining)))
-      ≡ cannotBe charge s
-  cannot-be-by =
-      by-cases (ℕ-discrete (s .period) 0)
-      (λ z. rw (ranges-by, eq-eqb (s .period) 0 z, le-leb (s .period) (s .until) (omega arith), or-true)
-      (empty-by (not (eqb (s .budget) 0) || not (eqb (s .until) 0) || not (eqb (s .remaining) 0))))
-      (λ n. rw (ranges-by, ne-eqb (s .period) 0 n))
-    where
-      empty-by : (x : Bool) → (x && true) ≡ (x || false)
-      empty-by true = refl
-      empty-by false = refl
-
 not-zero : (x : ℕ) → not (eqb x 0) ≡ false → x ≡ 0
 not-zero x e = eqb-true x 0 (not-false (eqb x 0) e)
 

@@ -20,7 +20,8 @@ use Rattle.edf.specs.Tick.{claimsFrom, chosen}
 use Rattle.edf.proofs.DemandLaws.{split}
 use Rattle.edf.proofs.EarliestLaws.{soonest-in}
 use Rattle.edf.proofs.ChoiceLaws.{ClaimOf, claim-slot, claims-from}
-use Rattle.runner.specs.Sweep.{choiceSoFar, ChoiceOf}
+use Rattle.slots.specs.SoFar.{choiceSoFar}
+use Rattle.runner.specs.Sweep.{ChoiceOf}
 
 -- An element of a list, whatever stands for one past the end.
 pub getD-any : {A : Type 0} (l : List A) (i : ℕ) (d e : A) → i < length l → getD l i d ≡ getD l i e

@@ -21,7 +21,8 @@ use Rattle.edf.proofs.SlotSteps.{ready-length}
 use Rattle.edf.proofs.ChoiceLaws.{ClaimOf, claim-slot}
 use Rattle.edf.proofs.NamingLaws.{chosen-names}
 use Rattle.runner.specs.Records.{ValidRecord}
-use Rattle.runner.specs.Sweep.{lateSoFar, choiceSoFar, ChoiceOf, readySoFar, AfterSlots, Passing}
+use Rattle.slots.specs.SoFar.{lateSoFar, choiceSoFar}
+use Rattle.runner.specs.Sweep.{ChoiceOf, readySoFar, AfterSlots, Passing}
 use Rattle.runner.proofs.SlotMore.{getD-any, more-before, more-here, first-more, each-more, chosen-more}
 
 -- One slot more of the pass.

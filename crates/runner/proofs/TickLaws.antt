@@ -14,7 +14,6 @@ use borrow.Author.Tests.{eq-eqb, ne-eqb, lt-ltb, le-ltb}
 use Rattle.refusal.specs.declared.Outcome.the-variants.{Accepted, Refused}
 use Rattle.refusal.specs.declared.Cause.the-variants.{Slot as WrongSlot}
 use Rattle.edf.specs.declared.Slot.{Slot}
-use Rattle.edf.specs.declared.Claim.{Claim}
 use Rattle.edf.specs.Slots.{emptySlot, occupied, each, firstWrong}
 use Rattle.edf.specs.Tick.{owedFor, firstLate, released, releaseAll, chosen, ran, run, advanced, advance, advanceAll, stepped, refusedTick, tick}
 use Rattle.edf.proofs.SlotLaws.{each-each, length-each}
@@ -22,50 +21,7 @@ use Rattle.edf.proofs.SlotSteps.{ran-at}
 use Rattle.runner.specs.declared.Core.{Core}
 use Rattle.runner.specs.declared.Ticked.{Ticked}
 use Rattle.runner.specs.Answers.{tickAnswer}
-use Rattle.runner.specs.Sweep.{lateSoFar, choiceSoFar}
 use Rattle.runner.proofs.SlotMore.{getD-any}
-
--- What a task is owed, by the test of its request.
-module _ (charge budget : ℕ) {asked : ℕ} where
-  pub owed-none : asked ≡ 0 → 0 ≡ owedFor charge budget asked
-  unfolding owedFor
-  owed-none e = rw (eq-eqb asked 0 e) (omega (arith, min-le-left asked budget))
-
-  pub owed-some : {least : ℕ} → (asked ≡ 0 → ⊥) → least ≡ min asked budget → least + charge ≡ owedFor charge budget asked
-  unfolding owedFor
-  owed-some n e = rw (ne-eqb asked 0 n, e)
-
--- A slot as its program makes it: each field that changes, by its own call.
-pub advanced-by : (s : Slot) {until : ℕ} → until ≡ s .until - 1
-    → record { period = s .period; budget = s .budget; until = until; remaining = s .remaining } ≡ advanced s
-advanced-by s e = λ i. record { period = s .period; budget = s .budget; until = e i; remaining = s .remaining }
-
-pub released-by : (s : Slot) {owed x : ℕ} → owed ≡ x
-    → record { period = s .period; budget = s .budget; until = s .period; remaining = owed } ≡ released s x
-released-by s e = ap (released s) e
-
-pub ran-by : (s : Slot) {remaining : ℕ} → remaining ≡ s .remaining - 1
-    → record { period = s .period; budget = s .budget; until = s .until; remaining = remaining } ≡ ran s
-ran-by s e = λ i. record { period = s .period; budget = s .budget; until = s .until; remaining = e i }
-
--- The late task and the choice so far, by their tests.
-module _ (late k : ℕ) (s : Slot) where
-  pub late-new : (eqb late 0 && ltb 0 (s .remaining)) ≡ true → k ≡ lateSoFar late k s
-  late-new e = rw e
-
-  pub late-kept : (eqb late 0 && ltb 0 (s .remaining)) ≡ false → late ≡ lateSoFar late k s
-  late-kept e = rw e
-
-module _ (best : Claim) (k : ℕ) (s : Slot) where
-  pub choice-new : 0 < s .remaining → (eqb (best .task) 0 || ltb (s .until) (best .deadline)) ≡ true
-      → record { task = k; deadline = s .until } ≡ choiceSoFar best k s
-  choice-new h e = rw (lt-ltb 0 (s .remaining) h, e)
-
-  pub choice-kept : 0 < s .remaining → (eqb (best .task) 0 || ltb (s .until) (best .deadline)) ≡ false → best ≡ choiceSoFar best k s
-  choice-kept h e = rw (lt-ltb 0 (s .remaining) h, e)
-
-  pub choice-idle : s .remaining ≤ 0 → best ≡ choiceSoFar best k s
-  choice-idle h = rw (le-ltb 0 (s .remaining) h)
 
 -- Counting down and running do not touch each other.
 run-advance : (task k : ℕ) (s : Slot) → run task k (advance k s) ≡ advance k (run task k s)

@@ -2,24 +2,13 @@
 use Prim.Native.Nat.{ℕ, suc, _-_, _≤_, _<_}
 use mathlib.Core.Path.{_≡_}
 use mathlib.Core.Logic.{_≢_}
-use mathlib.Core.Bool.{cond, _&&_, _||_}
 use mathlib.Core.List.{List}
-use lib.Dec.{eqb, ltb}
 use lib.ListN.{length, take}
 use Rattle.edf.specs.declared.Slot.{Slot}
 use Rattle.edf.specs.declared.Claim.{Claim}
 use Rattle.edf.specs.Slots.{slotAt}
 use Rattle.edf.specs.Tick.{firstLate, releaseAll, chosen, advance}
 use Rattle.runner.specs.Records.{ValidRecord}
-
--- the late task so far with slot number k, which is released: 0 is none so far
-abbrev pub lateSoFar : ℕ → ℕ → Slot → ℕ
-lateSoFar late k s = cond (eqb late 0 && ltb 0 (s .remaining)) k late
-
--- the choice so far with slot number k: it takes the choice's place if it owes ticks and its release is sooner; task 0 is none so far
-abbrev pub choiceSoFar : Claim → ℕ → Slot → Claim
-choiceSoFar best k s =
-    cond (ltb 0 (s .remaining) && (eqb (best .task) 0 || ltb (s .until) (best .deadline))) (record { task = k; deadline = s .until }) best
 
 -- The choice among some slots is the task that step 2 names, with its slot's ticks until release.
 pub record ChoiceOf (ready : List Slot) (choice : Claim) : Type 0 where

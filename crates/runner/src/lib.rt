@@ -2,18 +2,18 @@
 ghost use mathlib.Core.Path.{_≡_};
 ghost use mathlib.Core.Logic.{_≢_};
 ghost use mathlib.Core.List.{List};
-ghost use Prim.Native.Nat.{_+_, _-_, _≤_, min};
+ghost use Prim.Native.Nat.{_≤_};
 ghost use lib.Dec.{eqb};
 ghost use Rattle.edf.specs.declared.Slot.{Slot};
-ghost use Rattle.edf.specs.Slots.{each, cannotBe, firstWrong};
-ghost use Rattle.edf.specs.Tick.{owedFor, released as releasedOf, ran as ranOf, run as runSlot, advanced as advancedOf, stepped as steppedOf, tick as tickOf};
+ghost use Rattle.edf.specs.Slots.{each, firstWrong};
+ghost use Rattle.edf.specs.Tick.{run as runSlot, stepped as steppedOf, tick as tickOf};
 ghost use Rattle.refusal.specs.Conditions.{Decides};
 ghost use Rattle.refusal.specs.declared.Outcome.the-variants.{Accepted, Refused};
 ghost use Rattle.refusal.specs.declared.Cause.the-variants.{Slot as WrongSlot};
 ghost use Rattle.runner.specs.Answers.{tickAnswer};
 ghost use Rattle.runner.specs.Plain.{PlainTick, PlainRefusal};
 ghost use Rattle.runner.specs.Records.{ValidRecord, recordConditions};
-ghost use Rattle.runner.specs.Sweep.{lateSoFar, choiceSoFar, AfterSlots, Passing};
+ghost use Rattle.runner.specs.Sweep.{AfterSlots, Passing};
 use edf::Claim;
 use edf::Slot;
 use refusal::Cause;
@@ -40,115 +40,6 @@ struct Swept {
     choice: Claim,
 }
 
-// Whether a slot cannot be: it is not all zeros, and a field is out of its range. In a period of 0 no release is within the period.
-// A budget of 65,536 or more is above its period, or the period is above 10,000, whatever the cost is: so the remainder does, and the sum fits.
-fn cannot_be(charge: u32, s: Slot) -> bool
-    requires { ⌜ charge ≤ 9 ⌝ }
-    ensures { λ r. ⌜ r ≡ cannotBe charge s ⌝ }
-{
-    let cost = s.budget % 65536 + charge;
-    ((s.period != 0) | (s.budget != 0) | (s.until != 0) | (s.remaining != 0))
-        & ((10000 < s.period)
-            | (s.budget == 0)
-            | (s.period < s.budget)
-            | (s.period < cost)
-            | (s.period <= s.until)
-            | (cost < s.remaining))
-}
-
-fn smaller(a: u32, b: u32) -> u32
-    ensures { λ r. ⌜ r ≡ min a b ⌝ }
-{
-    if a < b { a } else { b }
-}
-
-// What a task is owed for a period: nothing if it asks for nothing, or else the smaller of request and budget, and the charge.
-fn owed_for(charge: u32, budget: u32, asked: u32) -> u32
-    requires { ⌜ budget + charge ≤ 10000 ⌝ }
-    ensures { λ r. ⌜ r ≡ owedFor charge budget asked ⌝ }
-{
-    if asked == 0 {
-        0
-    } else {
-        smaller(asked, budget) + charge
-    }
-}
-
-// A slot that is released: its next release is a period away, and it owes what its task is owed for the period.
-fn released(charge: u32, asked: u32, s: Slot) -> Slot
-    requires { ⌜ s .budget + charge ≤ 10000 ⌝ }
-    ensures { λ r. ⌜ r ≡ releasedOf s (owedFor charge (s .budget) asked) ⌝ }
-{
-    let owed = owed_for(charge, s.budget, asked);
-    Slot {
-        period: s.period,
-        budget: s.budget,
-        until: s.period,
-        remaining: owed,
-    }
-}
-
-// The late task so far, with one released slot more.
-fn late_so_far(late: usize, number: usize, s: Slot) -> usize
-    ensures { λ r. ⌜ r ≡ lateSoFar late number s ⌝ }
-{
-    if (late == 0) & (0 < s.remaining) {
-        number
-    } else {
-        late
-    }
-}
-
-// The choice so far, with one slot more.
-fn choice_so_far(best: Claim, number: usize, s: Slot) -> Claim
-    ensures { λ r. ⌜ r ≡ choiceSoFar best number s ⌝ }
-{
-    if 0 < s.remaining {
-        if (best.task == 0) | (s.until < best.deadline) {
-            Claim {
-                task: number,
-                deadline: s.until,
-            }
-        } else {
-            best
-        }
-    } else {
-        best
-    }
-}
-
-fn less_one(x: u32) -> u32
-    ensures { λ r. ⌜ r ≡ x - 1 ⌝ }
-{
-    if x == 0 { 0 } else { x - 1 }
-}
-
-// Step 3: an occupied slot's release is one tick nearer.
-fn advanced(s: Slot) -> Slot
-    ensures { λ r. ⌜ r ≡ advancedOf s ⌝ }
-{
-    let until = less_one(s.until);
-    Slot {
-        period: s.period,
-        budget: s.budget,
-        until: until,
-        remaining: s.remaining,
-    }
-}
-
-// Step 2: the slot that runs owes one tick less.
-fn ran(s: Slot) -> Slot
-    ensures { λ r. ⌜ r ≡ ranOf s ⌝ }
-{
-    let remaining = less_one(s.remaining);
-    Slot {
-        period: s.period,
-        budget: s.budget,
-        until: s.until,
-        remaining: remaining,
-    }
-}
-
 // Whether every slot can be. It does not stop at one that cannot, so that the compiler may test several at once.
 fn all_can_be(charge: u32, slots: [Slot; 16]) -> bool
     requires { ⌜ charge ≤ 9 ⌝ }
@@ -158,7 +49,7 @@ fn all_can_be(charge: u32, slots: [Slot; 16]) -> bool
     let mut i: usize = 0;
     while i < 16 {
         let s = slots[i];
-        good = good & !cannot_be(charge, s);
+        good = good & !slots::cannot_be(charge, s);
         i += 1;
     }
     good
@@ -172,7 +63,7 @@ fn first_wrong(charge: u32, slots: [Slot; 16]) -> usize
     let mut i: usize = 0;
     while i < 16 {
         let s = slots[i];
-        if cannot_be(charge, s) {
+        if slots::cannot_be(charge, s) {
             return i + 1;
         }
         i += 1;
@@ -200,12 +91,12 @@ fn pass(
         if s.period != 0 {
             let mut ready = s;
             if s.until == 0 {
-                late = late_so_far(late, done + 1, s);
+                late = slots::late_so_far(late, done + 1, s);
                 let asked = requests[done];
-                ready = released(charge, asked, s);
+                ready = slots::released(charge, asked, s);
             }
-            choice = choice_so_far(choice, done + 1, ready);
-            next[done] = advanced(ready);
+            choice = slots::choice_so_far(choice, done + 1, ready);
+            next[done] = slots::advanced(ready);
         }
         done += 1;
     }
@@ -236,7 +127,7 @@ fn after_run(run: usize, slots: [Slot; 16]) -> [Slot; 16]
     let mut next = slots;
     if run != 0 {
         let s = next[run - 1];
-        next[run - 1] = ran(s);
+        next[run - 1] = slots::ran(s);
     }
     next
 }

@@ -3,7 +3,7 @@ use Prim.Native.Nat.{_+_, _-_}
 use mathlib.Core.Path.{_≡_, _∙_}
 use mathlib.Core.Logic.{⊎-elim}
 use lib.ListN.{set}
-use Rattle.runner.specs.Sweep.{choiceSoFar}
+use Rattle.slots.specs.SoFar.{choiceSoFar}
 use Rattle.runner.proofs.SweepLaws.{Still, still-more, pass-empty, pass-cost, pass-due, pass-kept, pass-done}
 use borrow.Author.Needs.{needs}
 use Rattle.runner.proofs.pass.Statement.{statement}

@@ -1,8 +1,8 @@
 -- The remainder and the charge fit, and the test is the definition's.
-use Rattle.runner.proofs.RecordLaws.{cannot-be-by}
+use Rattle.slots.proofs.SlotLaws.{cannot-be-by}
 use borrow.Author.Needs.{needs}
-use Rattle.runner.proofs.cannot_be.Statement.{statement}
-use Rattle.runner.proofs.cannot_be.Tie as tie
+use Rattle.slots.proofs.cannot_be.Statement.{statement}
+use Rattle.slots.proofs.cannot_be.Tie as tie
 
 returns : tie.Need-returns
 returns c =

@@ -1,8 +1,8 @@
 -- What is owed, by the test of the request.
 use borrow.Author.Needs.{needs}
-use Rattle.runner.proofs.TickLaws.{owed-none, owed-some}
-use Rattle.runner.proofs.owed_for.Statement.{statement}
-use Rattle.runner.proofs.owed_for.Tie as tie
+use Rattle.slots.proofs.SlotLaws.{owed-none, owed-some}
+use Rattle.slots.proofs.owed_for.Statement.{statement}
+use Rattle.slots.proofs.owed_for.Tie as tie
 
 pub owed-for-spec : {M : Type 1} → statement M
 owed-for-spec =

@@ -1,7 +1,7 @@
 -- The choice, by its tests.
-use Rattle.runner.proofs.TickLaws.{choice-new, choice-kept, choice-idle}
-use Rattle.runner.proofs.choice_so_far.Statement.{statement}
-use Rattle.runner.proofs.choice_so_far.Tie as tie
+use Rattle.slots.proofs.SlotLaws.{choice-new, choice-kept, choice-idle}
+use Rattle.slots.proofs.choice_so_far.Statement.{statement}
+use Rattle.slots.proofs.choice_so_far.Tie as tie
 
 returns : tie.Need-returns
 returns c =

@@ -1,7 +1,7 @@
 -- The late task, by the test.
-use Rattle.runner.proofs.TickLaws.{late-new, late-kept}
-use Rattle.runner.proofs.late_so_far.Statement.{statement}
-use Rattle.runner.proofs.late_so_far.Tie as tie
+use Rattle.slots.proofs.SlotLaws.{late-new, late-kept}
+use Rattle.slots.proofs.late_so_far.Statement.{statement}
+use Rattle.slots.proofs.late_so_far.Tie as tie
 
 returns : tie.Need-returns
 returns c = let a = c .before .before .args in late-new (a .late) (a .number) (a .s) (c .if1 .taken)
