@@ -19,7 +19,7 @@ use Rattle.planner.specs.declared.Verdict.the-variants.{All, Short, Spent, Refu
 use Rattle.quick.specs.declared.QuickPlan.{QuickPlan}
 use Rattle.ceiling.specs.declared.StepCeiling.{StepCeiling}
 use Rattle.edf.specs.declared.Slot.{Slot}
-use Rattle.transfer.specs.declared.Transfer.{Transfer}
+use Rattle.storing.specs.declared.Transfer.{Transfer}
 use Rattle.start.specs.declared.Started.{Started}
 use Rattle.runner.specs.declared.Core.{Core}
 use Rattle.runner.specs.declared.Ticked.{Ticked}

@@ -13,8 +13,8 @@ mod tables;
 
 use refusal::Outcome;
 use runner::Core;
+use storing::Transfer;
 use taskset::Fields;
-use transfer::Transfer;
 
 // Reads a block of exactly the buffer's length; false where there is none.
 fn read_exact(buffer: &mut [u8]) -> bool {

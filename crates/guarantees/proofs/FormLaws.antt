@@ -24,7 +24,8 @@ use Rattle.newform.specs.Form.{newFields}
 use Rattle.newform.specs.Limits.{new}
 use Rattle.newform.proofs.BackLaws.{cut-read}
 use Rattle.newform.proofs.NewLaws.{new-sound}
-use Rattle.transfer.proofs.CallLaws.{Storable, call-valid, call-decides, call-stores, writing, moving, returning, write-back, write-unread, read-written, moved-on, moved-back}
+use Rattle.storing.proofs.StorableLaws.{Storable, call-valid, call-decides, call-stores}
+use Rattle.transfer.proofs.CallLaws.{writing, moving, returning, write-back, write-unread, read-written, moved-on, moved-back}
 use Rattle.planner.specs.Plan.{planFor, refusedPlan, planBy, planOf, verdictOutcome}
 use Rattle.planner.proofs.PlanLaws.{plan-accepted-is}
 use Rattle.quick.specs.Quick.{quickFor, refusedQuick, quickBy, quickOf}

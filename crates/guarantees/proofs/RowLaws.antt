@@ -21,7 +21,7 @@ use Rattle.form.specs.Shape.{shapeOutcome, formOutcome}
 use Rattle.oldform.specs.Limits.{oldOutcome, beside, alone}
 use Rattle.newform.specs.Form.{newFields, newBytes}
 use Rattle.newform.specs.Limits.{newOutcome, new}
-use Rattle.transfer.specs.Lent.{transferBy, exitBy, transferAfter, exitAfter}
+use Rattle.storing.specs.Lent.{transferBy, exitBy, transferAfter, exitAfter}
 use Rattle.transfer.specs.Tables.{written, otherByte, returned}
 use Rattle.planning.specs.Order.{precedes}
 use Rattle.allocation.specs.Rule.{twins, isEmpty, someEmptyTwin, tried}

@@ -14,9 +14,9 @@ use Rattle.oldform.specs.Form.{oldBytes, OldForm}
 use Rattle.oldform.specs.Limits.{beside, alone}
 use Rattle.newform.specs.Form.{newBytes, NewForm}
 use Rattle.newform.specs.Limits.{new}
-use Rattle.transfer.specs.Lent.{transferOf, exitOf}
+use Rattle.storing.specs.Lent.{transferOf, exitOf}
 use Rattle.transfer.specs.Tables.{written, returned}
-use Rattle.transfer.specs.Promise.{Stores, storedIn, Yields}
+use Rattle.storing.specs.Promise.{Stores, storedIn, Yields}
 use Rattle.planner.specs.Plan.{planOf}
 use Rattle.quick.specs.Quick.{quickOf}
 use Rattle.ceiling.specs.Ceiling.{ceilingOf}

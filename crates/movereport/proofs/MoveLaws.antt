@@ -26,11 +26,11 @@ use Rattle.oldform.proofs.OldLaws.{alone-sound}
 use Rattle.newform.specs.Form.{newFields, newBytes}
 use Rattle.newform.specs.Limits.{new}
 use Rattle.newform.proofs.BackLaws.{new-long}
-use Rattle.transfer.specs.Lent.{transferBy, exitBy, transferAfter, exitAfter, transferOf, exitOf}
+use Rattle.storing.specs.Lent.{transferBy, exitBy, transferAfter, exitAfter, transferOf, exitOf}
 use Rattle.transfer.specs.Tables.{returned}
-use Rattle.transfer.specs.Promise.{storedIn}
-use Rattle.transfer.specs.declared.Transfer.{Transfer}
-use Rattle.transfer.proofs.StoreLaws.{transfer-outcome}
+use Rattle.storing.specs.Promise.{storedIn}
+use Rattle.storing.specs.declared.Transfer.{Transfer}
+use Rattle.storing.proofs.StoreLaws.{transfer-outcome}
 use Rattle.transfer.proofs.CallLaws.{returned-sound}
 use Rattle.listing.specs.Printed.{printed}
 use Rattle.movereport.specs.Output.{Shows, movedBytes, MoveOutput}

@@ -4,10 +4,10 @@ use Rattle.oldform.specs.Form.{oldBytes, oldLength}
 use Rattle.oldform.proofs.BackLaws.{old-long}
 use Rattle.refusal.specs.declared.Cause.the-variants.{Buffer}
 use Rattle.taskset.proofs.ReadingLaws.{reads-few}
-use Rattle.transfer.proofs.StoreLaws.{store-ready, store-refused, store-accepted, store-same}
+use Rattle.storing.proofs.StoreLaws.{store-ready, store-refused, store-accepted, store-same}
 use borrow.Author.Needs.{needs}
-use Rattle.transfer.proofs.store_old.Statement.{statement}
-use Rattle.transfer.proofs.store_old.Tie as tie
+use Rattle.storing.proofs.store_old.Statement.{statement}
+use Rattle.storing.proofs.store_old.Tie as tie
 
 put-old-requires : tie.Need-put-old-requires
 put-old-requires c κs =

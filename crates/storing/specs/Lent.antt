@@ -9,7 +9,7 @@ use Rattle.refusal.specs.declared.Outcome.{Outcome}
 use Rattle.refusal.specs.declared.Outcome.the-variants.{Accepted, Refused}
 use Rattle.taskset.specs.Table.{Table}
 use Rattle.taskset.specs.declared.Fields.{Fields}
-use Rattle.transfer.specs.declared.Transfer.{Transfer}
+use Rattle.storing.specs.declared.Transfer.{Transfer}
 
 -- the answer by the outcome of all tests: the length of what is stored, or 0 beside a refusal
 unfoldable pub transferBy : Outcome → ℕ → Transfer

@@ -21,9 +21,9 @@ use Rattle.refusal.proofs.CauseLaws.{number-range}
 use Rattle.taskset.specs.Limits.{Within, Reads}
 use Rattle.taskset.specs.declared.Fields.{Fields}
 use Rattle.taskset.specs.declared.Reading.{Reading}
-use Rattle.transfer.specs.Lent.{transferBy, exitBy, transferAfter, exitAfter}
-use Rattle.transfer.specs.Promise.{Stores, storedIn}
-use Rattle.transfer.specs.declared.Transfer.{Transfer}
+use Rattle.storing.specs.Lent.{transferBy, exitBy, transferAfter, exitAfter}
+use Rattle.storing.specs.Promise.{Stores, storedIn}
+use Rattle.storing.specs.declared.Transfer.{Transfer}
 
 -- there is room where the test accepts
 room-there : (cause : Cause) (size room : ℕ) → roomTest cause size room ≡ Accepted → size ≤ room

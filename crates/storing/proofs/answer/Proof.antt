@@ -1,9 +1,9 @@
 -- The answer is the definition, case by case.
 use Rattle.refusal.specs.Tests.{byOutcome}
-use Rattle.transfer.specs.Lent.{transferBy}
+use Rattle.storing.specs.Lent.{transferBy}
 use borrow.Author.Needs.{needs}
-use Rattle.transfer.proofs.answer.Statement.{statement}
-use Rattle.transfer.proofs.answer.Tie as tie
+use Rattle.storing.proofs.answer.Statement.{statement}
+use Rattle.storing.proofs.answer.Tie as tie
 
 returns : tie.Need-returns
 unfolding transferBy byOutcome

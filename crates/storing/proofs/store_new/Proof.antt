@@ -4,10 +4,10 @@ use Rattle.newform.specs.Form.{newBytes, newLength}
 use Rattle.newform.proofs.BackLaws.{new-long}
 use Rattle.refusal.specs.declared.Cause.the-variants.{Buffer}
 use Rattle.taskset.proofs.ReadingLaws.{reads-few}
-use Rattle.transfer.proofs.StoreLaws.{store-ready, store-refused, store-accepted, store-same}
+use Rattle.storing.proofs.StoreLaws.{store-ready, store-refused, store-accepted, store-same}
 use borrow.Author.Needs.{needs}
-use Rattle.transfer.proofs.store_new.Statement.{statement}
-use Rattle.transfer.proofs.store_new.Tie as tie
+use Rattle.storing.proofs.store_new.Statement.{statement}
+use Rattle.storing.proofs.store_new.Tie as tie
 
 put-new-requires : tie.Need-put-new-requires
 put-new-requires c κs =
