@@ -35,7 +35,8 @@ use Rattle.ceiling.specs.Ceiling.{someTied, factorFor, sumOfProducts, stepCeili
 use Rattle.edf.specs.Slots.{slotTest, firstSlot}
 use Rattle.edf.specs.Tick.{owedFor, release, releaseAll, chosen, advanceAll, stepped, refusedTick, tick}
 use Rattle.edf.specs.Fresh.{freshSlot, freshSlots}
-use Rattle.start.specs.Starts.{aboveAt, barredAt, refusedStart, startFor, startBy, placingOutcome, startOf}
+use Rattle.placing.specs.Tests.{aboveAt, barredAt, placingOutcome}
+use Rattle.start.specs.Starts.{refusedStart, startFor, startBy, startOf}
 use Rattle.text.specs.Decimal.{front, digitsBy, decimal, field}
 use Rattle.listing.specs.Lines.{refusalLine, sizesLine, taskLine, taskLines, tableLines}
 use Rattle.listing.specs.Printed.{printed}

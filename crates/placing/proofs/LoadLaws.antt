@@ -1,4 +1,4 @@
--- The loops over a placement: the load of a core, and the slots of a fresh record.
+-- The loop over a placement that sums the load of a core, and the test of that load.
 use Prim.Native.Nat.{ℕ, _+_, _*_, _≤_, _<_}
 use mathlib.Core.Path.{_≡_, refl, _∙_}
 use mathlib.Core.Bool.{cond}
@@ -12,14 +12,11 @@ use Rattle.numbers.proofs.BoolLaws.{cond-le}
 use Rattle.refusal.specs.Tests.{refuseIf}
 use Rattle.refusal.specs.declared.Cause.the-variants.{Overload}
 use Rattle.refusal.specs.declared.Outcome.{Outcome}
-use Rattle.taskset.specs.declared.Fields.{Fields}
 use Rattle.taskset.specs.declared.TaskSet.{TaskSet}
 use Rattle.taskset.specs.Demands.{demandOf, loadOn}
 use Rattle.taskset.specs.Limits.{Checked}
 use Rattle.taskset.proofs.DemandLaws.{demands-small, hyperperiod-held, demand-held}
-use Rattle.edf.specs.declared.Slot.{Slot}
-use Rattle.edf.specs.Fresh.{slotFor, freshSlot}
-use Rattle.start.specs.Starts.{placedTasks, loadTest}
+use Rattle.placing.specs.Tests.{loadTest}
 
 -- A loop that adds the demands on a core: those of the tasks before k are added.
 pub record Adding (t : TaskSet) (placement : List ℕ) (core sum k : ℕ) : Type 0 where
@@ -60,9 +57,3 @@ module _ {t : TaskSet} {placement : List ℕ} {core sum k : ℕ} (s : Adding t p
 pub load-tested : {t : TaskSet} (placement : List ℕ) (core : ℕ) {load : ℕ} {o : Outcome} → Checked t → load ≡ loadOn (t .fields) placement core
     → o ≡ refuseIf (ltb (t .hyperperiod) load) Overload → o ≡ loadTest (t .fields) placement core
 load-tested placement core c p q = q ∙ rw (p, hyperperiod-held c)
-
--- A loop that fills the slots of a fresh record: the slot of task k.
-pub slot-made : (f : Fields) (placement : List ℕ) (core k : ℕ) {v : Slot} {placed : ℕ} → placed ≡ entry placement k
-    → v ≡ slotFor (entry (f .periods) k) (entry (f .budgets) k) 0 placed core → v ≡ freshSlot (placedTasks f placement) core k
-unfolding freshSlot
-slot-made f placement core k e q = rw e at q

@@ -1,9 +1,9 @@
 -- The tests are joined in their order.
 use Rattle.refusal.proofs.TestLaws.{order-step, order-last}
-use Rattle.start.specs.Starts.{placingOutcome}
+use Rattle.placing.specs.Tests.{placingOutcome}
 use borrow.Author.Needs.{needs}
-use Rattle.start.proofs.placing_tests.Statement.{statement}
-use Rattle.start.proofs.placing_tests.Tie as tie
+use Rattle.placing.proofs.placing_tests.Statement.{statement}
+use Rattle.placing.proofs.placing_tests.Tie as tie
 
 pub placing-tests-spec : {M : Type 1} → statement M
 unfolding placingOutcome
