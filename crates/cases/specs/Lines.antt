@@ -8,7 +8,7 @@ use Rattle.text.specs.Decimal.{decimal, field}
 use Rattle.text.specs.Joined.{joined, fields}
 use Rattle.refusal.specs.Causes.{numberIn, placeIn}
 use Rattle.refusal.specs.declared.Outcome.{Outcome}
-use Rattle.taskset.specs.declared.Fields.{Fields}
+use Rattle.fields.specs.declared.Fields.{Fields}
 use Rattle.taskset.specs.declared.TaskSet.{TaskSet}
 use Rattle.taskset.specs.declared.Reading.{Reading}
 use Rattle.planning.specs.Order.{planningOrder}

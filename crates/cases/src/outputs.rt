@@ -8,8 +8,8 @@ ghost use Rattle.text.specs.Shown.{shown};
 ghost use Rattle.cases.specs.Blocks.{fieldsIn};
 ghost use Rattle.cases.specs.Lines.{answerStart, piece as pieceOf};
 use crate::lines;
+use fields::Fields;
 use storing::Transfer;
-use taskset::Fields;
 use text::Text;
 
 // The fields that the blocks of code 8 say.

@@ -9,12 +9,12 @@ use Rattle.wire.specs.Bytes.{wordAt}
 use Rattle.wire.proofs.WriteBackLaws.{front-long}
 use Rattle.refusal.specs.declared.Cause.the-variants.{Buffer}
 use Rattle.refusal.specs.declared.Outcome.the-variants.{Accepted}
-use Rattle.taskset.specs.Fields.{periodAt, budgetAt, cut}
+use Rattle.fields.specs.Fields.{periodAt, budgetAt, cut}
 use Rattle.taskset.specs.Reading.{acceptedReading}
-use Rattle.taskset.specs.Limits.{Within}
+use Rattle.fields.specs.Limits.{Within}
 use Rattle.taskset.specs.Table.{Table, readingOf}
-use Rattle.taskset.specs.declared.Fields.{Fields}
-use Rattle.taskset.proofs.LimitLaws.{affinity-there}
+use Rattle.fields.specs.declared.Fields.{Fields}
+use Rattle.fields.proofs.LimitLaws.{affinity-there}
 use Rattle.taskset.proofs.TableLaws.{table-accepts, read-outcome, read-fields, valid-reading, answers-alike}
 use Rattle.oldform.specs.Form.{besideFields, oldBytes}
 use Rattle.oldform.specs.Limits.{beside, alone}

@@ -12,8 +12,9 @@ use Rattle.numbers.specs.Sums.{sumOver, sumTo, productTo}
 use Rattle.affinity.specs.Permitted.{permitted, allowed, permittedCount, lowestPermitted, unfit, everyCore}
 use Rattle.refusal.specs.Tests.{_then_, refuseIf, refuseAt, inOrder, byOutcome}
 use Rattle.wire.specs.Bytes.{wordAt, byteAt}
-use Rattle.taskset.specs.Demands.{multipleTo, hyperperiodOf, demandOf, loadOn}
-use Rattle.taskset.specs.Tests.{badPeriod, badBudget, badCost, badAffinity, exceeds, fieldsOutcome}
+use Rattle.fields.specs.Hyperperiod.{multipleTo, hyperperiodOf}
+use Rattle.taskset.specs.Demands.{demandOf, loadOn}
+use Rattle.fields.specs.Tests.{badPeriod, badBudget, badCost, badAffinity, exceeds, fieldsOutcome}
 use Rattle.taskset.specs.Reading.{taskSetOf, noTasks, refusedReading, acceptedReading, readingBy}
 use Rattle.oldform.specs.Form.{besideFields, everyAffinity, oldBytes}
 use Rattle.taskset.specs.Table.{readingOf}

@@ -2,12 +2,13 @@
 use Prim.Native.Nat.{_*_, _/_}
 use mathlib.Core.Path.{refl, sym, _∙_, ap}
 use Rattle.affinity.proofs.PermittedLaws.{every-permits}
-use Rattle.taskset.specs.Fields.{periodAt, Free}
-use Rattle.taskset.specs.Demands.{hyperperiodOf, demandOf}
-use Rattle.taskset.specs.Limits.{Sized}
+use Rattle.fields.specs.Fields.{periodAt, Free}
+use Rattle.fields.specs.Hyperperiod.{hyperperiodOf}
+use Rattle.taskset.specs.Demands.{demandOf}
+use Rattle.fields.specs.Limits.{Sized}
 use Rattle.taskset.specs.Table.{Table, Sound}
-use Rattle.taskset.specs.declared.Fields.{Fields}
-use Rattle.taskset.proofs.LimitLaws.{cost-uncharged, charge-uncharged, costs-uncharged, row-every, affinity-every}
+use Rattle.fields.specs.declared.Fields.{Fields}
+use Rattle.fields.proofs.LimitLaws.{cost-uncharged, charge-uncharged, costs-uncharged, row-every, affinity-every}
 use Rattle.oldform.specs.Form.{besideFields}
 use Rattle.oldform.specs.Limits.{beside, alone}
 use Rattle.oldform.proofs.FormLaws.{every-counted, every-affinity}

@@ -9,7 +9,7 @@ use Rattle.refusal.specs.Conditions.{Gives}
 use Rattle.refusal.specs.declared.Cause.the-variants.{Buffer}
 use Rattle.refusal.specs.declared.Outcome.the-variants.{Accepted}
 use Rattle.taskset.specs.Table.{Table, readingOf}
-use Rattle.taskset.specs.declared.Fields.{Fields}
+use Rattle.fields.specs.declared.Fields.{Fields}
 use Rattle.oldform.specs.Form.{oldTable, everyAffinity, oldBytes}
 use Rattle.oldform.specs.Limits.{beside, alone}
 use Rattle.newform.specs.Form.{newTable, newBytes}

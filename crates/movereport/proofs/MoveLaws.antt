@@ -17,7 +17,7 @@ use Rattle.text.specs.declared.Text.{Text}
 use Rattle.text.proofs.ClipLaws.{append-whole}
 use Rattle.refusal.specs.declared.Cause.the-variants.{Buffer}
 use Rattle.taskset.specs.Table.{Table, Sound}
-use Rattle.taskset.specs.declared.Fields.{Fields}
+use Rattle.fields.specs.declared.Fields.{Fields}
 use Rattle.taskset.proofs.TableLaws.{table-accepts}
 use Rattle.oldform.specs.Form.{aloneFields, oldBytes}
 use Rattle.oldform.specs.Limits.{alone}

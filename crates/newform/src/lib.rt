@@ -1,13 +1,13 @@
 // The new stored form, which holds the charge and the core bytes: its bytes become fields, and these a task set or a refusal.
 ghost use mathlib.Core.Path.{_≡_};
-ghost use Rattle.taskset.specs.Limits.{Reads};
+ghost use Rattle.taskset.specs.Promise.{Reads};
 ghost use Rattle.taskset.specs.Table.{readingOf, Decided};
 ghost use Rattle.form.specs.Layout.{ReadsIn};
 ghost use Rattle.newform.specs.Form.{newFields, NewForm};
 ghost use Rattle.newform.specs.Limits.{firstTest, new};
+use fields::Fields;
 use refusal::Cause;
 use refusal::Outcome;
-use taskset::Fields;
 use taskset::Reading;
 
 // The fields that the bytes say; bytes past the end count as 0.

@@ -4,7 +4,7 @@ ghost use mathlib.Core.Path.{_≡_};
 ghost use lib.ListN.{replicate};
 ghost use Rattle.numbers.specs.Rows.{row, entry};
 ghost use Rattle.taskset.specs.Reading.{readingBy};
-ghost use Rattle.taskset.specs.Limits.{Reads};
+ghost use Rattle.taskset.specs.Promise.{Reads};
 ghost use Rattle.taskset.specs.Table.{readingOf, Decided};
 ghost use Rattle.form.specs.Layout.{ReadsIn};
 ghost use Rattle.oldform.specs.Form.{oldFields, everyAffinity, FormBeside};

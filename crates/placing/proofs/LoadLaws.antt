@@ -14,7 +14,7 @@ use Rattle.refusal.specs.declared.Cause.the-variants.{Overload}
 use Rattle.refusal.specs.declared.Outcome.{Outcome}
 use Rattle.taskset.specs.declared.TaskSet.{TaskSet}
 use Rattle.taskset.specs.Demands.{demandOf, loadOn}
-use Rattle.taskset.specs.Limits.{Checked}
+use Rattle.taskset.specs.Promise.{Checked}
 use Rattle.taskset.proofs.DemandLaws.{demands-small, hyperperiod-held, demand-held}
 use Rattle.placing.specs.Tests.{loadTest}
 

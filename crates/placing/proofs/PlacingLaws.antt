@@ -16,9 +16,10 @@ use Rattle.refusal.specs.Tests.{inOrder}
 use Rattle.refusal.specs.Conditions.{Fails, Tested}
 use Rattle.refusal.specs.declared.Cause.the-variants.{Placement, CoreNumber, Overload, NotPermitted}
 use Rattle.refusal.proofs.ConditionLaws.{test-only, test-at, _and_, no-more, _also_, unnamed}
-use Rattle.taskset.specs.declared.Fields.{Fields}
-use Rattle.taskset.specs.Fields.{affinityAt}
-use Rattle.taskset.specs.Demands.{hyperperiodOf, loadOn}
+use Rattle.fields.specs.declared.Fields.{Fields}
+use Rattle.fields.specs.Fields.{affinityAt}
+use Rattle.fields.specs.Hyperperiod.{hyperperiodOf}
+use Rattle.taskset.specs.Demands.{loadOn}
 use Rattle.taskset.specs.Table.{Table, Sound}
 use Rattle.taskset.proofs.TableLaws.{also-sound}
 use Rattle.placing.specs.Tests.{aboveAt, barredAt, placingOutcome}

@@ -9,9 +9,10 @@ use Rattle.numbers.specs.Bounds.{Outside}
 use Rattle.numbers.specs.Rows.{entry}
 use Rattle.affinity.specs.Permitted.{permitted}
 use Rattle.refusal.specs.Conditions.{Condition, only, at}
-use Rattle.taskset.specs.declared.Fields.{Fields}
-use Rattle.taskset.specs.Fields.{affinityAt}
-use Rattle.taskset.specs.Demands.{hyperperiodOf, loadOn}
+use Rattle.fields.specs.declared.Fields.{Fields}
+use Rattle.fields.specs.Fields.{affinityAt}
+use Rattle.fields.specs.Hyperperiod.{hyperperiodOf}
+use Rattle.taskset.specs.Demands.{loadOn}
 use Rattle.taskset.specs.Table.{Table, also}
 use Rattle.placing.specs.Tests.{placingOutcome}
 

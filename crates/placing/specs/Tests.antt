@@ -11,9 +11,10 @@ use Rattle.affinity.specs.Permitted.{allowed}
 use Rattle.refusal.specs.Tests.{refuseIf, refuseAt, inOrder}
 use Rattle.refusal.specs.declared.Cause.the-variants.{Placement, CoreNumber, Overload, NotPermitted}
 use Rattle.refusal.specs.declared.Outcome.{Outcome}
-use Rattle.taskset.specs.declared.Fields.{Fields}
-use Rattle.taskset.specs.Fields.{affinityAt}
-use Rattle.taskset.specs.Demands.{hyperperiodOf, loadOn}
+use Rattle.fields.specs.declared.Fields.{Fields}
+use Rattle.fields.specs.Fields.{affinityAt}
+use Rattle.fields.specs.Hyperperiod.{hyperperiodOf}
+use Rattle.taskset.specs.Demands.{loadOn}
 
 -- number 9: the placement's length is not n,
 abbrev pub placesTest : Fields → List ℕ → Outcome

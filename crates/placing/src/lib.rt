@@ -4,11 +4,11 @@ ghost use mathlib.Core.Bool.{cond};
 ghost use Prim.Native.Nat.{_≤_, _<_};
 ghost use Rattle.numbers.specs.First.{first};
 ghost use Rattle.taskset.specs.Demands.{loadOn};
-ghost use Rattle.taskset.specs.Limits.{Checked};
+ghost use Rattle.taskset.specs.Promise.{Checked};
 ghost use Rattle.placing.specs.Tests.{placesTest, aboveAt, entriesTest, barredAt, permittedTest, coreTest, loadTest, placingOutcome};
+use fields::Fields;
 use refusal::Cause;
 use refusal::Outcome;
-use taskset::Fields;
 use taskset::TaskSet;
 
 // Number 9: the placement's length is not n,

@@ -14,12 +14,14 @@ use Rattle.refusal.specs.declared.Outcome.{Outcome}
 use Rattle.refusal.specs.declared.Outcome.the-variants.{Accepted, Refused}
 use Rattle.refusal.proofs.TestLaws.{accepted≢refused, then-first, then-refused, by-accepted, by-refused, by-both, by-says}
 use Rattle.refusal.proofs.ConditionLaws.{join-after, decides}
-use Rattle.taskset.specs.declared.Fields.{Fields}
+use Rattle.fields.specs.declared.Fields.{Fields}
 use Rattle.taskset.specs.declared.TaskSet.{TaskSet}
 use Rattle.taskset.specs.declared.Reading.{Reading}
-use Rattle.taskset.specs.Demands.{hyperperiodOf, demandOf, loadOn}
-use Rattle.taskset.specs.Limits.{Within}
-use Rattle.taskset.proofs.DemandLaws.{hyperperiod-is, demand-exact}
+use Rattle.fields.specs.Hyperperiod.{hyperperiodOf}
+use Rattle.taskset.specs.Demands.{demandOf, loadOn}
+use Rattle.fields.specs.Limits.{Within}
+use Rattle.fields.proofs.HyperperiodLaws.{hyperperiod-is}
+use Rattle.taskset.proofs.DemandLaws.{demand-exact}
 use Rattle.taskset.specs.Table.{Table, readingOf, Decided, Sound}
 use Rattle.taskset.proofs.TableLaws.{table-accepts, read-outcome, read-fields}
 use Rattle.oldform.specs.Form.{aloneFields}

@@ -7,7 +7,7 @@ use lib.ListN.{replicate}
 use Rattle.numbers.specs.Rows.{entry}
 use Rattle.refusal.specs.Causes.{numberIn}
 use Rattle.refusal.specs.declared.Outcome.the-variants.{Accepted}
-use Rattle.taskset.specs.Fields.{periodAt, budgetAt}
+use Rattle.fields.specs.Fields.{periodAt, budgetAt}
 use Rattle.taskset.specs.Table.{Table}
 use Rattle.edf.specs.Slots.{slotAt}
 use Rattle.edf.specs.Guarantee.{TickGuarantee}

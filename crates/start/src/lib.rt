@@ -2,7 +2,7 @@
 ghost use mathlib.Core.Path.{_≡_};
 ghost use Prim.Native.Nat.{_≤_};
 ghost use Rattle.edf.specs.Fresh.{slotFor, freshSlots};
-ghost use Rattle.taskset.specs.Limits.{Checked};
+ghost use Rattle.taskset.specs.Promise.{Checked};
 ghost use Rattle.taskset.specs.Table.{Decided};
 ghost use Rattle.oldform.specs.Limits.{beside};
 ghost use Rattle.placing.specs.Tests.{placingOutcome};
@@ -10,10 +10,10 @@ ghost use Rattle.placing.specs.Limits.{placed};
 ghost use Rattle.start.specs.Starts.{placedTasks, refusedStart, startBy, startOf};
 ghost use Rattle.start.specs.Limits.{Starts};
 use edf::Slot;
+use fields::Fields;
 use refusal::Cause;
 use refusal::Outcome;
 use runner::Core;
-use taskset::Fields;
 use taskset::TaskSet;
 
 // What a fresh core hands back: its record, or zeros and the cause of refusal.

@@ -7,9 +7,9 @@ use native.Mathlib.Omega.{arith}
 use Rattle.wire.specs.Bytes.{bytesOfAll, over}
 use Rattle.wire.proofs.WriteBackLaws.{front-bytes}
 use Rattle.wire.proofs.LentLaws.{over-two, over-four, over-front, over-next, length-over}
-use Rattle.taskset.specs.Limits.{Within}
-use Rattle.taskset.specs.declared.Fields.{Fields}
-use Rattle.taskset.proofs.LimitLaws.{periods-there, budgets-there}
+use Rattle.fields.specs.Limits.{Within}
+use Rattle.fields.specs.declared.Fields.{Fields}
+use Rattle.fields.proofs.LimitLaws.{periods-there, budgets-there}
 use Rattle.oldform.specs.Form.{oldBytes}
 use Rattle.oldform.proofs.BackLaws.{old-long}
 use Rattle.newform.specs.Form.{newBytes}

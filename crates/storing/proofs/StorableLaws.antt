@@ -10,7 +10,7 @@ use Rattle.refusal.specs.declared.Cause.{Cause}
 use Rattle.refusal.specs.declared.Outcome.the-variants.{Accepted}
 use Rattle.refusal.proofs.ConditionLaws.{decides}
 use Rattle.taskset.specs.Table.{Table, lent, readingOf, Decided, Sound}
-use Rattle.taskset.specs.declared.Fields.{Fields}
+use Rattle.fields.specs.declared.Fields.{Fields}
 use Rattle.taskset.specs.declared.Reading.{Reading}
 use Rattle.taskset.proofs.TableLaws.{table-accepts, read-outcome, read-fields}
 use Rattle.storing.specs.Lent.{transferBy, exitBy, transferAfter, exitAfter, transferOf, exitOf}

@@ -18,8 +18,9 @@ use Rattle.refusal.specs.declared.Outcome.the-variants.{Accepted, Refused}
 use Rattle.refusal.proofs.TestLaws.{outcome-cases, then-accepted, then-refused, refuseIf-accepted, by-says}
 use Rattle.refusal.proofs.ConditionLaws.{join-after, room-tested}
 use Rattle.refusal.proofs.CauseLaws.{number-range}
-use Rattle.taskset.specs.Limits.{Within, Reads}
-use Rattle.taskset.specs.declared.Fields.{Fields}
+use Rattle.fields.specs.Limits.{Within}
+use Rattle.taskset.specs.Promise.{Reads}
+use Rattle.fields.specs.declared.Fields.{Fields}
 use Rattle.taskset.specs.declared.Reading.{Reading}
 use Rattle.storing.specs.Lent.{transferBy, exitBy, transferAfter, exitAfter}
 use Rattle.storing.specs.Promise.{Stores, storedIn}

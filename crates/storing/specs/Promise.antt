@@ -7,7 +7,7 @@ use lib.ListN.{length, take, drop}
 use Rattle.refusal.specs.Causes.{numberIn}
 use Rattle.refusal.specs.declared.Cause.{Cause}
 use Rattle.refusal.specs.declared.Outcome.the-variants.{Accepted}
-use Rattle.taskset.specs.declared.Fields.{Fields}
+use Rattle.fields.specs.declared.Fields.{Fields}
 use Rattle.taskset.specs.Table.{Table}
 use Rattle.storing.specs.Lent.{transferOf, exitOf}
 use Rattle.storing.specs.declared.Transfer.{Transfer}

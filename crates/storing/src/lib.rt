@@ -5,13 +5,14 @@ ghost use Prim.Native.Nat.{_+_, _*_, _≤_};
 ghost use lib.ListN.{length, drop};
 ghost use Rattle.refusal.specs.Tests.{_then_, roomTest};
 ghost use Rattle.refusal.specs.declared.Cause.the-variants.{Buffer};
-ghost use Rattle.taskset.specs.Limits.{Within, Reads};
+ghost use Rattle.fields.specs.Limits.{Within};
+ghost use Rattle.taskset.specs.Promise.{Reads};
 ghost use Rattle.oldform.specs.Form.{oldBytes};
 ghost use Rattle.newform.specs.Form.{newBytes};
 ghost use Rattle.storing.specs.Lent.{transferBy, transferAfter, exitAfter};
+use fields::Fields;
 use refusal::Cause;
 use refusal::Outcome;
-use taskset::Fields;
 use taskset::Reading;
 
 // The answer of a call that stores a table in a lent output: the table's length, or 0 beside a refusal.

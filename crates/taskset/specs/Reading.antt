@@ -1,26 +1,15 @@
 -- What a check of fields gives.
-use mathlib.Core.Bool.{cond}
-use lib.Dec.{eqb}
 use lib.ListN.{replicate}
-use Rattle.numbers.specs.First.{first}
 use Rattle.numbers.specs.Rows.{row}
 use Rattle.refusal.specs.Tests.{byOutcome}
 use Rattle.refusal.specs.declared.Cause.{Cause}
 use Rattle.refusal.specs.declared.Outcome.{Outcome}
 use Rattle.refusal.specs.declared.Outcome.the-variants.{Accepted, Refused}
-use Rattle.taskset.specs.Demands.{hyperperiodOf, demandOf}
-use Rattle.taskset.specs.Tests.{exceeds}
-use Rattle.taskset.specs.declared.Fields.{Fields}
-use Rattle.taskset.specs.declared.Multiple.{Multiple}
+use Rattle.fields.specs.Hyperperiod.{hyperperiodOf}
+use Rattle.taskset.specs.Demands.{demandOf}
+use Rattle.fields.specs.declared.Fields.{Fields}
 use Rattle.taskset.specs.declared.TaskSet.{TaskSet}
 use Rattle.taskset.specs.declared.Reading.{Reading}
-
--- the first task at which the least common multiple exceeds 1,000,000, or the hyperperiod where there is none
-unfoldable pub multipleOf : Fields → Multiple
-multipleOf f = record {
-  exceeded = first (exceeds f) (f .n);
-  value = cond (eqb (first (exceeds f) (f .n)) 0) (hyperperiodOf f) 0;
-}
 
 -- the task set of fields within the limits
 unfoldable pub taskSetOf : Fields → TaskSet

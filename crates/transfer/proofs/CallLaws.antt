@@ -9,14 +9,14 @@ use Rattle.refusal.specs.declared.Cause.the-variants.{Buffer}
 use Rattle.refusal.specs.declared.Outcome.{Outcome}
 use Rattle.refusal.specs.declared.Outcome.the-variants.{Accepted}
 use Rattle.refusal.proofs.ConditionLaws.{unnamed, join-after}
-use Rattle.taskset.specs.Fields.{Free, cut}
-use Rattle.taskset.specs.Tests.{fieldsOutcome}
+use Rattle.fields.specs.Fields.{Free, cut}
+use Rattle.fields.specs.Tests.{fieldsOutcome}
 use Rattle.taskset.specs.Reading.{acceptedReading, readingBy}
-use Rattle.taskset.specs.Limits.{Within, sizes, chargeAbove, periodOutside, budgetOutside, costAbove, rowOther, affinityUnfit, multipleAbove}
+use Rattle.fields.specs.Limits.{Within, sizes, chargeAbove, periodOutside, budgetOutside, costAbove, rowOther, affinityUnfit, multipleAbove}
 use Rattle.taskset.specs.Table.{bare, readingOf, Sound}
-use Rattle.taskset.specs.declared.Fields.{Fields}
+use Rattle.fields.specs.declared.Fields.{Fields}
 use Rattle.taskset.specs.declared.Reading.{Reading}
-use Rattle.taskset.proofs.LimitLaws.{row-every, fields-tested}
+use Rattle.fields.proofs.LimitLaws.{row-every, fields-tested}
 use Rattle.taskset.proofs.TableLaws.{valid-reading, also-reading}
 use Rattle.oldform.specs.Form.{taskCount, besideFields, everyAffinity, aloneFields, oldBytes, OldForm}
 use Rattle.oldform.specs.Limits.{ValidBeside, alone}

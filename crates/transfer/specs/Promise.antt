@@ -5,9 +5,9 @@ use mathlib.Core.List.{List}
 use lib.ListN.{length}
 use Rattle.refusal.specs.declared.Cause.the-variants.{Buffer}
 use Rattle.refusal.specs.declared.Outcome.the-variants.{Accepted}
-use Rattle.taskset.specs.Fields.{cut, Alike}
+use Rattle.fields.specs.Fields.{cut, Alike}
 use Rattle.taskset.specs.Reading.{acceptedReading}
-use Rattle.taskset.specs.declared.Fields.{Fields}
+use Rattle.fields.specs.declared.Fields.{Fields}
 use Rattle.taskset.specs.Table.{readingOf}
 use Rattle.oldform.specs.Form.{oldBytes}
 use Rattle.oldform.specs.Limits.{alone}

@@ -13,10 +13,10 @@ ghost use Rattle.storing.specs.Lent.{transferOf, exitOf};
 ghost use Rattle.storing.specs.Promise.{Stores};
 ghost use Rattle.transfer.specs.Tables.{counted as countedFields, written, otherByte, fillingTest, returned};
 ghost use Rattle.transfer.specs.Promise.{ReadBack, Unread, MovedOn, MovedBack};
+use fields::Fields;
 use refusal::Cause;
 use refusal::Outcome;
 use storing::Transfer;
-use taskset::Fields;
 
 // Fields with a core byte for each task, as the new form has it.
 fn counted(f: Fields) -> Fields

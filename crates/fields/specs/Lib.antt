@@ -1,0 +1,4 @@
+pub mod Fields
+pub mod Hyperperiod
+pub mod Tests
+pub mod Limits
