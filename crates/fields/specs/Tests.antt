@@ -9,25 +9,26 @@ use Rattle.affinity.specs.Permitted.{unfit}
 use Rattle.refusal.specs.Tests.{refuseIf, refuseAt, inOrder}
 use Rattle.refusal.specs.declared.Cause.the-variants.{TaskCount, CoreCount, Period, Budget, Hyperperiod, Charge, Cost, Affinity}
 use Rattle.refusal.specs.declared.Outcome.{Outcome}
+use Rattle.fields.specs.Most.{mostTasks, mostCores, mostCharge, longestPeriod, mostMultiple}
 use Rattle.fields.specs.Fields.{periodAt, budgetAt, costAt, affinityAt}
 use Rattle.fields.specs.Hyperperiod.{multipleTo}
 use Rattle.fields.specs.declared.Fields.{Fields}
 
 -- number 2: n is 0 or above 16
 abbrev pub tasksTest : Fields → Outcome
-tasksTest f = refuseIf (outside 1 16 (f .n)) TaskCount
+tasksTest f = refuseIf (outside 1 mostTasks (f .n)) TaskCount
 
 -- number 3: m is 0 or above 4
 abbrev pub coresTest : Fields → Outcome
-coresTest f = refuseIf (outside 1 4 (f .m)) CoreCount
+coresTest f = refuseIf (outside 1 mostCores (f .m)) CoreCount
 
 -- number 13: the charge is above 9
 abbrev pub chargeTest : Fields → Outcome
-chargeTest f = refuseIf (ltb 9 (f .charge)) Charge
+chargeTest f = refuseIf (ltb mostCharge (f .charge)) Charge
 
 -- number 5: a period outside 1 to 10,000
 unfoldable pub badPeriod : Fields → ℕ → Bool
-badPeriod f k = outside 1 10000 (periodAt f k)
+badPeriod f k = outside 1 longestPeriod (periodAt f k)
 
 abbrev pub periodsTest : Fields → Outcome
 periodsTest f = refuseAt (first (badPeriod f) (f .n)) Period
@@ -59,7 +60,7 @@ affinityTest f = refuseAt (first (badAffinity f) (f .n)) Affinity
 
 -- number 7: with this task's period the least common multiple exceeds 1,000,000
 unfoldable pub exceeds : Fields → ℕ → Bool
-exceeds f k = ltb 1000000 (multipleTo f (k + 1))
+exceeds f k = ltb mostMultiple (multipleTo f (k + 1))
 
 abbrev pub hyperperiodTest : Fields → Outcome
 hyperperiodTest f = refuseAt (first (exceeds f) (f .n)) Hyperperiod

@@ -6,16 +6,28 @@ ghost use Rattle.fields.specs.Tests.{tasksTest, coresTest, sizeTests, ch
 use refusal::Cause;
 use refusal::Outcome;
 
+// The paper's limits: at most so many tasks, cores, and ticks of charge, the longest period, and the greatest common multiple of the
+// periods that is accepted.
+pub const MOST_TASKS: usize = 16;
+
+pub const MOST_CORES: usize = 4;
+
+pub const MOST_CHARGE: u32 = 9;
+
+pub const LONGEST_PERIOD: u64 = 10000;
+
+pub const MOST_MULTIPLE: u64 = 1000000;
+
 // What a stored table says: the numbers of tasks and cores, and a period and a budget (the paper's time) for each task. Beside it
 // the board's charge (the field's switch cost), and a core byte (the field's affinity) for each task with how many of them were
 // given: a stored form that holds them has n. A reader makes the entries beyond n 0.
 pub struct Fields {
     pub n: usize,
     pub m: usize,
-    pub periods: [u32; 16],
-    pub budgets: [u32; 16],
+    pub periods: [u32; MOST_TASKS],
+    pub budgets: [u32; MOST_TASKS],
     pub charge: u32,
-    pub affinity: [u8; 16],
+    pub affinity: [u8; MOST_TASKS],
     pub given: usize,
 }
 
@@ -23,14 +35,20 @@ pub struct Fields {
 fn tasks_test(f: Fields) -> Outcome
     ensures { λ r. ⌜ r ≡ tasksTest f ⌝ }
 {
-    refusal::refuse_if(numbers::outside(1, 16, f.n as u64), Cause::TaskCount)
+    refusal::refuse_if(
+        numbers::outside(1, MOST_TASKS as u64, f.n as u64),
+        Cause::TaskCount,
+    )
 }
 
 // Number 3.
 fn cores_test(f: Fields) -> Outcome
     ensures { λ r. ⌜ r ≡ coresTest f ⌝ }
 {
-    refusal::refuse_if(numbers::outside(1, 4, f.m as u64), Cause::CoreCount)
+    refusal::refuse_if(
+        numbers::outside(1, MOST_CORES as u64, f.m as u64),
+        Cause::CoreCount,
+    )
 }
 
 // The tests of the sizes: numbers 2 and 3.
@@ -46,7 +64,7 @@ pub fn size_tests(f: Fields) -> Outcome
 pub fn charge_test(f: Fields) -> Outcome
     ensures { λ r. ⌜ r ≡ chargeTest f ⌝ }
 {
-    refusal::refuse_if(9 < f.charge, Cause::Charge)
+    refusal::refuse_if(MOST_CHARGE < f.charge, Cause::Charge)
 }
 
 // Whether the period of task `k` is outside 1 to 10,000.
@@ -54,7 +72,7 @@ pub fn is_bad_period(f: Fields, k: usize) -> bool
     requires { ⌜ k < 16 ⌝ }
     ensures { λ r. ⌜ r ≡ badPeriod f k ⌝ }
 {
-    numbers::outside(1, 10000, f.periods[k] as u64)
+    numbers::outside(1, LONGEST_PERIOD, f.periods[k] as u64)
 }
 
 // Whether the budget of task `k` is 0 or above its period.

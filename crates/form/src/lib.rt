@@ -6,6 +6,7 @@ ghost use Rattle.taskset.specs.Reading.{readingBy};
 ghost use Rattle.form.specs.Layout.{fieldsAt};
 ghost use Rattle.form.specs.Shape.{shortTest, lengthTest, shapeOutcome, formOutcome};
 use fields::Fields;
+use fields::MOST_TASKS;
 use refusal::Cause;
 use refusal::Outcome;
 use taskset::Reading;
@@ -17,7 +18,7 @@ pub fn decode(
     at: usize,
     lead: usize,
     charge: u32,
-    affinity: [u8; 16],
+    affinity: [u8; MOST_TASKS],
     given: usize,
 ) -> Fields
     requires { ⌜ (at ≤ 1) × (lead ≤ 4) ⌝ }

@@ -85,7 +85,7 @@ pub fn common_multiple(f: Fields) -> Multiple
     let mut k = 0;
     while k < f.n {
         let next = numbers::lcm(h, f.periods[k]);
-        if 1000000 < next {
+        if fields::MOST_MULTIPLE < next {
             return Multiple {
                 exceeded: k + 1,
                 value: 0,

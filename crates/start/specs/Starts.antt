@@ -6,6 +6,7 @@ use Rattle.refusal.specs.Tests.{_then_, byOutcome}
 use Rattle.refusal.specs.declared.Cause.{Cause}
 use Rattle.refusal.specs.declared.Outcome.{Outcome}
 use Rattle.refusal.specs.declared.Outcome.the-variants.{Accepted, Refused}
+use Rattle.fields.specs.Most.{mostTasks}
 use Rattle.fields.specs.declared.Fields.{Fields}
 use Rattle.taskset.specs.Table.{Table}
 use Rattle.edf.specs.Slots.{emptySlot}
@@ -19,7 +20,7 @@ placedTasks f placement = record { n = f .n; periods = f .periods; budgets = f .
 
 -- the answer where the call is refused: a record of zeros beside the cause
 unfoldable pub refusedStart : Cause → Started
-refusedStart cause = record { outcome = Refused cause; core = record { slots = replicate 16 emptySlot; charge = 0 } }
+refusedStart cause = record { outcome = Refused cause; core = record { slots = replicate mostTasks emptySlot; charge = 0 } }
 
 -- the answer for fields, a placement and a core number that are accepted: the record carries the charge, that of an empty core too
 unfoldable pub startFor : List ℕ → ℕ → Fields → Started

@@ -11,6 +11,7 @@ ghost use Rattle.start.specs.Starts.{placedTasks, refusedStart, startBy,
 ghost use Rattle.start.specs.Limits.{Starts};
 use edf::Slot;
 use fields::Fields;
+use fields::MOST_TASKS;
 use refusal::Cause;
 use refusal::Outcome;
 use runner::Core;
@@ -39,12 +40,12 @@ fn fresh_slot(period: u32, budget: u32, placed: u8, core: u8) -> Slot
 }
 
 // The slots of a fresh core record.
-fn fresh_slots(f: Fields, placement: &[u8], core: u8) -> [Slot; 16]
+fn fresh_slots(f: Fields, placement: &[u8], core: u8) -> [Slot; MOST_TASKS]
     requires { ⌜ f .n ≤ 16 ⌝ }
     ensures { λ r. ⌜ r ≡ freshSlots (placedTasks f (now (placement .entry))) core ⌝ }
 {
     let empty = Slot::empty();
-    let mut slots = [empty; 16];
+    let mut slots = [empty; MOST_TASKS];
     let mut k: usize = 0;
     while k < f.n {
         slots[k] = fresh_slot(f.periods[k], f.budgets[k], wire::byte(placement, k), core);
@@ -59,7 +60,7 @@ fn refused(cause: Cause) -> Started
 {
     let empty = Slot::empty();
     let core = Core {
-        slots: [empty; 16],
+        slots: [empty; MOST_TASKS],
         charge: 0,
     };
     Started {

@@ -34,9 +34,9 @@ fn put_new(out: &mut [u8], f: Fields)
     let periods = f.periods;
     let budgets = f.budgets;
     let affinity = f.affinity;
-    wire::put_words(out, 4, periods, n);
-    wire::put_words(out, 4 + 4 * n, budgets, n);
-    wire::put_bytes(out, 4 + 8 * n, affinity, n);
+    wire::put_words(out, newform::LEAD, periods, n);
+    wire::put_words(out, newform::LEAD + 4 * n, budgets, n);
+    wire::put_bytes(out, newform::LEAD + 8 * n, affinity, n);
 }
 
 // The same in the old form, which has no place for charge and core bytes.
@@ -49,8 +49,8 @@ fn put_old(out: &mut [u8], f: Fields)
     out[1] = f.m as u8;
     let periods = f.periods;
     let budgets = f.budgets;
-    wire::put_words(out, 2, periods, n);
-    wire::put_words(out, 2 + 4 * n, budgets, n);
+    wire::put_words(out, oldform::LEAD, periods, n);
+    wire::put_words(out, oldform::LEAD + 4 * n, budgets, n);
 }
 
 // The tests before, then number 8: the output is shorter than the table.
@@ -84,7 +84,7 @@ pub fn store_new(reading: Reading, out: &mut [u8]) -> Transfer
     ensures output { λ r. ⌜ now (out .exit) ≡ exitAfter Buffer (reading .outcome) (newBytes (reading .tasks .fields)) (now (out .entry)) ⌝ }
 {
     let before = reading.outcome;
-    let size = 4 + 9 * reading.tasks.fields.n;
+    let size = newform::LEAD + newform::EACH * reading.tasks.fields.n;
     let outcome = room_after(before, size, out.len());
     match outcome {
         Outcome::Refused(_) => answer(outcome, size),
@@ -102,7 +102,7 @@ pub fn store_old(reading: Reading, out: &mut [u8]) -> Transfer
     ensures output { λ r. ⌜ now (out .exit) ≡ exitAfter Buffer (reading .outcome) (oldBytes (reading .tasks .fields)) (now (out .entry)) ⌝ }
 {
     let before = reading.outcome;
-    let size = 2 + 8 * reading.tasks.fields.n;
+    let size = oldform::LEAD + oldform::EACH * reading.tasks.fields.n;
     let outcome = room_after(before, size, out.len());
     match outcome {
         Outcome::Refused(_) => answer(outcome, size),

@@ -5,6 +5,7 @@ use Rattle.refusal.specs.Tests.{byOutcome}
 use Rattle.refusal.specs.declared.Cause.{Cause}
 use Rattle.refusal.specs.declared.Outcome.{Outcome}
 use Rattle.refusal.specs.declared.Outcome.the-variants.{Accepted, Refused}
+use Rattle.fields.specs.Most.{mostTasks}
 use Rattle.fields.specs.Hyperperiod.{hyperperiodOf}
 use Rattle.taskset.specs.Demands.{demandOf}
 use Rattle.fields.specs.declared.Fields.{Fields}
@@ -18,9 +19,9 @@ taskSetOf f = record { fields = f; hyperperiod = hyperperiodOf f; demands = row 
 -- all zeros
 unfoldable pub noTasks : TaskSet
 noTasks = record {
-  fields = record { n = 0; m = 0; charge = 0; periods = replicate 16 0; budgets = replicate 16 0; affinity = replicate 16 0; given = 0 };
+  fields = record { n = 0; m = 0; charge = 0; periods = replicate mostTasks 0; budgets = replicate mostTasks 0; affinity = replicate mostTasks 0; given = 0 };
   hyperperiod = 0;
-  demands = replicate 16 0;
+  demands = replicate mostTasks 0;
 }
 
 -- the answer where fields are refused: zeros beside the cause

@@ -12,6 +12,7 @@ ghost use Rattle.taskset.specs.Reading.{refusedReading, acceptedReading,
 ghost use Rattle.taskset.specs.Promise.{Reads};
 ghost use Rattle.taskset.specs.Table.{bare, readingOf, Decided};
 use fields::Fields;
+use fields::MOST_TASKS;
 use refusal::Cause;
 use refusal::Outcome;
 
@@ -19,7 +20,7 @@ use refusal::Outcome;
 pub struct TaskSet {
     pub fields: Fields,
     pub hyperperiod: u32,
-    pub demands: [u32; 16],
+    pub demands: [u32; MOST_TASKS],
 }
 
 // The answer of a check of fields, and so of every reader: a refusal has zeros beside its cause.
@@ -45,11 +46,11 @@ fn demand(f: Fields, h: u32, k: usize) -> u32
 }
 
 // The demand of each task in the hyperperiod `h`, and zeros up to sixteen.
-fn demands(f: Fields, h: u32) -> [u32; 16]
+fn demands(f: Fields, h: u32) -> [u32; MOST_TASKS]
     requires { ⌜ Within f × (h ≡ hyperperiodOf f) ⌝ }
     ensures { λ r. ⌜ r ≡ row 0 (f .n) (demandOf f) ⌝ }
 {
-    let mut entries = [0u32; 16];
+    let mut entries = [0u32; MOST_TASKS];
     let mut k = 0;
     while k < f.n {
         let next = numbers::with_number(entries, k, demand(f, h, k));
@@ -66,16 +67,16 @@ fn refused(cause: Cause) -> Reading
     let fields = Fields {
         n: 0,
         m: 0,
-        periods: [0; 16],
-        budgets: [0; 16],
+        periods: [0; MOST_TASKS],
+        budgets: [0; MOST_TASKS],
         charge: 0,
-        affinity: [0; 16],
+        affinity: [0; MOST_TASKS],
         given: 0,
     };
     let tasks = TaskSet {
         fields: fields,
         hyperperiod: 0,
-        demands: [0; 16],
+        demands: [0; MOST_TASKS],
     };
     Reading {
         outcome: Outcome::Refused(cause),
