@@ -48,7 +48,7 @@ use Rattle.runner.specs.Records.{ValidRecord, recordConditions}
 use Rattle.runner.specs.Plain.{PlainRefusal}
 use Rattle.placing.specs.Limits.{coreAbove, coreBarred, placingAlone, placed}
 use Rattle.start.specs.Starts.{placedTasks, startOf}
-use Rattle.start.specs.Limits.{Starts}
+use Rattle.start.specs.Promise.{Starts}
 
 -- What a call can be given: a stored table with any charge and core bytes beside it, one by itself, one in the new form, one that is to be moved back,
 -- fields that stand in no bytes, and fields that are to be written. Its tests are those of its limits, and its conditions those of the paper's table.

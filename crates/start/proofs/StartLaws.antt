@@ -38,7 +38,7 @@ use Rattle.placing.specs.Limits.{Placed, placingAlone, placed}
 use Rattle.placing.proofs.PlacingLaws.{placed-sound, placing-tested-alone}
 use Rattle.start.specs.declared.Started.{Started}
 use Rattle.start.specs.Starts.{placedTasks, refusedStart, startFor, startBy, startOf}
-use Rattle.start.specs.Limits.{Serves, Starts}
+use Rattle.start.specs.Promise.{Serves, Starts}
 
 -- the answer's outcome is that of the tests
 module _ {t : Table} (sound : Sound t) (placement : List ℕ) (core : ℕ) where

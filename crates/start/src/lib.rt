@@ -8,7 +8,7 @@ ghost use Rattle.oldform.specs.Limits.{beside};
 ghost use Rattle.placing.specs.Tests.{placingOutcome};
 ghost use Rattle.placing.specs.Limits.{placed};
 ghost use Rattle.start.specs.Starts.{placedTasks, refusedStart, startBy, startOf};
-ghost use Rattle.start.specs.Limits.{Starts};
+ghost use Rattle.start.specs.Promise.{Starts};
 use edf::Slot;
 use fields::Fields;
 use fields::MOST_TASKS;
