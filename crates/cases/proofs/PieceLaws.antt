@@ -13,7 +13,7 @@ use Rattle.text.specs.declared.Text.{Text}
 use Rattle.text.specs.Decimal.{field}
 use Rattle.text.proofs.ClipLaws.{append-both, append-whole}
 use Rattle.refusal.specs.declared.Outcome.{Outcome}
-use Rattle.transfer.specs.declared.Transfer.{Transfer}
+use Rattle.storing.specs.declared.Transfer.{Transfer}
 use Rattle.cases.specs.Lines.{outcomeFields, answerStart, piece}
 
 pub start-whole : {t a r : Text} (answer : Transfer) {o : Outcome} → shown t ≡ [] → answer .outcome ≡ o → Appended t (outcomeFields o) 41 a

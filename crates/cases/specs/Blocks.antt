@@ -2,7 +2,7 @@
 use Prim.Native.Nat.{ℕ, _+_, _*_}
 use mathlib.Core.List.{List}
 use Rattle.edf.specs.declared.Slot.{Slot}
-use Rattle.taskset.specs.declared.Fields.{Fields}
+use Rattle.fields.specs.declared.Fields.{Fields}
 use Rattle.wire.specs.Bytes.{le32}
 
 -- slot k of a record, from 0: period, budget, ticks until release, ticks owed

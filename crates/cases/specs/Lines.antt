@@ -8,7 +8,7 @@ use Rattle.text.specs.Decimal.{decimal, field}
 use Rattle.text.specs.Joined.{joined, fields}
 use Rattle.refusal.specs.Causes.{numberIn, placeIn}
 use Rattle.refusal.specs.declared.Outcome.{Outcome}
-use Rattle.taskset.specs.declared.Fields.{Fields}
+use Rattle.fields.specs.declared.Fields.{Fields}
 use Rattle.taskset.specs.declared.TaskSet.{TaskSet}
 use Rattle.taskset.specs.declared.Reading.{Reading}
 use Rattle.planning.specs.Order.{planningOrder}
@@ -19,7 +19,7 @@ use Rattle.planner.specs.declared.Verdict.the-variants.{All, Short, Spent, Refu
 use Rattle.quick.specs.declared.QuickPlan.{QuickPlan}
 use Rattle.ceiling.specs.declared.StepCeiling.{StepCeiling}
 use Rattle.edf.specs.declared.Slot.{Slot}
-use Rattle.transfer.specs.declared.Transfer.{Transfer}
+use Rattle.storing.specs.declared.Transfer.{Transfer}
 use Rattle.start.specs.declared.Started.{Started}
 use Rattle.runner.specs.declared.Core.{Core}
 use Rattle.runner.specs.declared.Ticked.{Ticked}

@@ -11,10 +11,10 @@ mod quicks;
 mod records;
 mod tables;
 
+use fields::Fields;
 use refusal::Outcome;
 use runner::Core;
-use taskset::Fields;
-use transfer::Transfer;
+use storing::Transfer;
 
 // Reads a block of exactly the buffer's length; false where there is none.
 fn read_exact(buffer: &mut [u8]) -> bool {

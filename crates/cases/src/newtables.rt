@@ -3,7 +3,7 @@ ghost use mathlib.Core.Path.{_≡_};
 ghost use Rattle.text.specs.Shown.{shown, Appended};
 ghost use Rattle.cases.specs.Lines.{boardFields, rowFields, newLine};
 use crate::lines;
-use taskset::Fields;
+use fields::Fields;
 use taskset::Reading;
 use taskset::TaskSet;
 use text::Text;

@@ -8,9 +8,9 @@ ghost use Rattle.text.specs.Shown.{shown};
 ghost use Rattle.cases.specs.Blocks.{fieldsIn};
 ghost use Rattle.cases.specs.Lines.{answerStart, piece as pieceOf};
 use crate::lines;
-use taskset::Fields;
+use fields::Fields;
+use storing::Transfer;
 use text::Text;
-use transfer::Transfer;
 
 // The fields that the blocks of code 8 say.
 pub fn fields_in(

@@ -9,8 +9,8 @@ use Rattle.numbers.specs.Rows.{entry}
 use Rattle.numbers.specs.Sums.{sumFromOne, productFromOne}
 use Rattle.affinity.specs.Permitted.{permitted}
 use Rattle.refusal.specs.Causes.{numberIn}
-use Rattle.taskset.specs.Fields.{affinityAt, Free, Tied}
-use Rattle.taskset.specs.declared.Fields.{Fields}
+use Rattle.fields.specs.Fields.{affinityAt, Free, Tied}
+use Rattle.fields.specs.declared.Fields.{Fields}
 use Rattle.taskset.specs.Table.{Table}
 use Rattle.planning.specs.Problem.{orderOf}
 use Rattle.plans.specs.Safe.{StatedOrder}

@@ -2,7 +2,7 @@
 ghost use mathlib.Core.Path.{_≡_};
 ghost use Prim.Native.Nat.{_+_, _*_, _≤_, _<_, min};
 ghost use lib.ListN.{take};
-ghost use Rattle.taskset.specs.Limits.{Checked, Reads};
+ghost use Rattle.taskset.specs.Promise.{Checked, Reads};
 ghost use Rattle.taskset.specs.Table.{Decided};
 ghost use Rattle.oldform.specs.Limits.{beside};
 ghost use Rattle.ceiling.specs.Ceiling.{someTied, factorFor, sumOfProducts, stepCeiling, ceilingBy, ceilingOf};

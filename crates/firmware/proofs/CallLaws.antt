@@ -18,9 +18,9 @@ use Rattle.refusal.specs.declared.Outcome.the-variants as outcome
 use Rattle.refusal.proofs.CauseLaws.{number-range}
 use Rattle.refusal.proofs.TestLaws.{accepted≢refused, outcome-cases, then-accepted, by-accepted, by-refused}
 use Rattle.refusal.proofs.ConditionLaws.{none-first, first-given}
-use Rattle.taskset.specs.Limits.{Checked, Reads}
+use Rattle.taskset.specs.Promise.{Checked, Reads}
 use Rattle.taskset.specs.Table.{Table, readingOf, Sound}
-use Rattle.taskset.specs.declared.Fields.{Fields}
+use Rattle.fields.specs.declared.Fields.{Fields}
 use Rattle.taskset.specs.declared.Reading.{Reading}
 use Rattle.taskset.proofs.TableLaws.{lent-sound, table-accepts, table-within, also-read, also-fields}
 use Rattle.newform.specs.Limits.{new}

@@ -7,7 +7,7 @@ use Rattle.numbers.specs.Rows.{row, entry}
 use Rattle.numbers.proofs.RowLaws.{getD-row, row-beyond}
 use Rattle.wire.specs.Bytes.{le32, wordAt, byteAt}
 use Rattle.taskset.specs.Table.{Table, readingOf, Sound}
-use Rattle.taskset.specs.declared.Fields.{Fields}
+use Rattle.fields.specs.declared.Fields.{Fields}
 use Rattle.taskset.specs.declared.Reading.{Reading}
 use Rattle.taskset.proofs.TableLaws.{table-accepts, read-outcome, read-fields}
 use Rattle.form.specs.Layout.{fieldsAt, StandsAt, Bounded, ReadsIn}

@@ -12,10 +12,10 @@ use Rattle.refusal.specs.declared.Outcome.the-variants.{Accepted}
 use Rattle.refusal.proofs.ConditionLaws.{join, one-tested}
 use Rattle.refusal.proofs.TestLaws.{then-accepted}
 use Rattle.taskset.specs.Reading.{readingBy}
-use Rattle.taskset.specs.Limits.{Sized, Within, sizes, limits}
-use Rattle.taskset.specs.declared.Fields.{Fields}
+use Rattle.fields.specs.Limits.{Sized, Within, sizes, limits}
+use Rattle.fields.specs.declared.Fields.{Fields}
 use Rattle.taskset.specs.declared.Reading.{Reading}
-use Rattle.taskset.proofs.LimitLaws.{sizes-tested}
+use Rattle.fields.proofs.LimitLaws.{sizes-tested}
 use Rattle.taskset.proofs.ReadingLaws.{sizes-say}
 use Rattle.taskset.proofs.TableLaws.{after-tested}
 use Rattle.form.specs.Shape.{shortTest, tooShort, otherLength, shapeOutcome, formOutcome}

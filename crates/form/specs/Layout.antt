@@ -6,8 +6,8 @@ use lib.ListN.{getD}
 use Rattle.numbers.specs.Rows.{row}
 use Rattle.wire.specs.Bytes.{le32, wordAt}
 use Rattle.refusal.specs.declared.Outcome.the-variants.{Accepted}
-use Rattle.taskset.specs.Fields.{periodAt, budgetAt, affinityAt}
-use Rattle.taskset.specs.declared.Fields.{Fields}
+use Rattle.fields.specs.Fields.{periodAt, budgetAt, affinityAt}
+use Rattle.fields.specs.declared.Fields.{Fields}
 use Rattle.taskset.specs.declared.Reading.{Reading}
 
 -- the fields of a table with n at one byte and m at the next, then behind the leading bytes n periods and n budgets (the paper's times) in the

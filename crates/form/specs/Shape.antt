@@ -9,8 +9,8 @@ use Rattle.refusal.specs.Tests.{_then_, refuseIf, inOrder}
 use Rattle.refusal.specs.Conditions.{Condition, only}
 use Rattle.refusal.specs.declared.Cause.the-variants.{TooShort, Length}
 use Rattle.refusal.specs.declared.Outcome.{Outcome}
-use Rattle.taskset.specs.Tests.{sizeTests, limitTests}
-use Rattle.taskset.specs.declared.Fields.{Fields}
+use Rattle.fields.specs.Tests.{sizeTests, limitTests}
+use Rattle.fields.specs.declared.Fields.{Fields}
 
 -- number 1: the table is shorter than its leading bytes
 abbrev pub shortTest : ℕ → List ℕ → Outcome

@@ -5,9 +5,10 @@ ghost use Rattle.refusal.specs.declared.Outcome.the-variants.{Accepted};
 ghost use Rattle.taskset.specs.Reading.{readingBy};
 ghost use Rattle.form.specs.Layout.{fieldsAt};
 ghost use Rattle.form.specs.Shape.{shortTest, lengthTest, shapeOutcome, formOutcome};
+use fields::Fields;
+use fields::MOST_TASKS;
 use refusal::Cause;
 use refusal::Outcome;
-use taskset::Fields;
 use taskset::Reading;
 
 // The fields of a table with n at `at` and m behind it, whose periods and budgets stand behind `lead` bytes; with a charge, and sixteen
@@ -17,7 +18,7 @@ pub fn decode(
     at: usize,
     lead: usize,
     charge: u32,
-    affinity: [u8; 16],
+    affinity: [u8; MOST_TASKS],
     given: usize,
 ) -> Fields
     requires { ⌜ (at ≤ 1) × (lead ≤ 4) ⌝ }
@@ -56,7 +57,7 @@ fn length_test(s: &[u8], size: usize) -> Outcome
 fn shape_tests(front: Outcome, s: &[u8], size: usize, f: Fields) -> Outcome
     ensures { λ r. ⌜ r ≡ shapeOutcome front size (now (s .entry)) f ⌝ }
 {
-    let sizes = taskset::size_tests(f);
+    let sizes = fields::size_tests(f);
     let exact = length_test(s, size);
     let first = refusal::then(front, sizes);
     refusal::then(first, exact)

@@ -5,7 +5,8 @@ use mathlib.Core.List.{List}
 use mathlib.Core.Logic.{_↔_}
 use lib.ListN.{length}
 use Rattle.refusal.specs.Conditions.{Gives}
-use Rattle.taskset.specs.Demands.{hyperperiodOf, loadOn}
+use Rattle.fields.specs.Hyperperiod.{hyperperiodOf}
+use Rattle.taskset.specs.Demands.{loadOn}
 use Rattle.taskset.specs.Table.{Table, Sound}
 use Rattle.taskset.proofs.DemandLaws.{demand-exact}
 use Rattle.taskset.proofs.TableLaws.{bare-sound, read-decided, read-reads}

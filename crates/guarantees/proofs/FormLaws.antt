@@ -9,12 +9,12 @@ use Rattle.wire.specs.Bytes.{wordAt}
 use Rattle.wire.proofs.WriteBackLaws.{front-long}
 use Rattle.refusal.specs.declared.Cause.the-variants.{Buffer}
 use Rattle.refusal.specs.declared.Outcome.the-variants.{Accepted}
-use Rattle.taskset.specs.Fields.{periodAt, budgetAt, cut}
+use Rattle.fields.specs.Fields.{periodAt, budgetAt, cut}
 use Rattle.taskset.specs.Reading.{acceptedReading}
-use Rattle.taskset.specs.Limits.{Within}
+use Rattle.fields.specs.Limits.{Within}
 use Rattle.taskset.specs.Table.{Table, readingOf}
-use Rattle.taskset.specs.declared.Fields.{Fields}
-use Rattle.taskset.proofs.LimitLaws.{affinity-there}
+use Rattle.fields.specs.declared.Fields.{Fields}
+use Rattle.fields.proofs.LimitLaws.{affinity-there}
 use Rattle.taskset.proofs.TableLaws.{table-accepts, read-outcome, read-fields, valid-reading, answers-alike}
 use Rattle.oldform.specs.Form.{besideFields, oldBytes}
 use Rattle.oldform.specs.Limits.{beside, alone}
@@ -24,7 +24,8 @@ use Rattle.newform.specs.Form.{newFields}
 use Rattle.newform.specs.Limits.{new}
 use Rattle.newform.proofs.BackLaws.{cut-read}
 use Rattle.newform.proofs.NewLaws.{new-sound}
-use Rattle.transfer.proofs.CallLaws.{Storable, call-valid, call-decides, call-stores, writing, moving, returning, write-back, write-unread, read-written, moved-on, moved-back}
+use Rattle.storing.proofs.StorableLaws.{Storable, call-valid, call-decides, call-stores}
+use Rattle.transfer.proofs.CallLaws.{writing, moving, returning, write-back, write-unread, read-written, moved-on, moved-back}
 use Rattle.planner.specs.Plan.{planFor, refusedPlan, planBy, planOf, verdictOutcome}
 use Rattle.planner.proofs.PlanLaws.{plan-accepted-is}
 use Rattle.quick.specs.Quick.{quickFor, refusedQuick, quickBy, quickOf}

@@ -12,8 +12,9 @@ use Rattle.numbers.specs.Sums.{sumOver, sumTo, productTo}
 use Rattle.affinity.specs.Permitted.{permitted, allowed, permittedCount, lowestPermitted, unfit, everyCore}
 use Rattle.refusal.specs.Tests.{_then_, refuseIf, refuseAt, inOrder, byOutcome}
 use Rattle.wire.specs.Bytes.{wordAt, byteAt}
-use Rattle.taskset.specs.Demands.{multipleTo, hyperperiodOf, demandOf, loadOn}
-use Rattle.taskset.specs.Tests.{badPeriod, badBudget, badCost, badAffinity, exceeds, fieldsOutcome}
+use Rattle.fields.specs.Hyperperiod.{multipleTo, hyperperiodOf}
+use Rattle.taskset.specs.Demands.{demandOf, loadOn}
+use Rattle.fields.specs.Tests.{badPeriod, badBudget, badCost, badAffinity, exceeds, fieldsOutcome}
 use Rattle.taskset.specs.Reading.{taskSetOf, noTasks, refusedReading, acceptedReading, readingBy}
 use Rattle.oldform.specs.Form.{besideFields, everyAffinity, oldBytes}
 use Rattle.taskset.specs.Table.{readingOf}
@@ -21,7 +22,7 @@ use Rattle.form.specs.Shape.{shapeOutcome, formOutcome}
 use Rattle.oldform.specs.Limits.{oldOutcome, beside, alone}
 use Rattle.newform.specs.Form.{newFields, newBytes}
 use Rattle.newform.specs.Limits.{newOutcome, new}
-use Rattle.transfer.specs.Lent.{transferBy, exitBy, transferAfter, exitAfter}
+use Rattle.storing.specs.Lent.{transferBy, exitBy, transferAfter, exitAfter}
 use Rattle.transfer.specs.Tables.{written, otherByte, returned}
 use Rattle.planning.specs.Order.{precedes}
 use Rattle.allocation.specs.Rule.{twins, isEmpty, someEmptyTwin, tried}
@@ -35,7 +36,8 @@ use Rattle.ceiling.specs.Ceiling.{someTied, factorFor, sumOfProducts, stepCeili
 use Rattle.edf.specs.Slots.{slotTest, firstSlot}
 use Rattle.edf.specs.Tick.{owedFor, release, releaseAll, chosen, advanceAll, stepped, refusedTick, tick}
 use Rattle.edf.specs.Fresh.{freshSlot, freshSlots}
-use Rattle.start.specs.Starts.{aboveAt, barredAt, refusedStart, startFor, startBy, placingOutcome, startOf}
+use Rattle.placing.specs.Tests.{aboveAt, barredAt, placingOutcome}
+use Rattle.start.specs.Starts.{refusedStart, startFor, startBy, startOf}
 use Rattle.text.specs.Decimal.{front, digitsBy, decimal, field}
 use Rattle.listing.specs.Lines.{refusalLine, sizesLine, taskLine, taskLines, tableLines}
 use Rattle.listing.specs.Printed.{printed}

@@ -2,12 +2,13 @@
 use Prim.Native.Nat.{_*_, _/_}
 use mathlib.Core.Path.{refl, sym, _∙_, ap}
 use Rattle.affinity.proofs.PermittedLaws.{every-permits}
-use Rattle.taskset.specs.Fields.{periodAt, Free}
-use Rattle.taskset.specs.Demands.{hyperperiodOf, demandOf}
-use Rattle.taskset.specs.Limits.{Sized}
+use Rattle.fields.specs.Fields.{periodAt, Free}
+use Rattle.fields.specs.Hyperperiod.{hyperperiodOf}
+use Rattle.taskset.specs.Demands.{demandOf}
+use Rattle.fields.specs.Limits.{Sized}
 use Rattle.taskset.specs.Table.{Table, Sound}
-use Rattle.taskset.specs.declared.Fields.{Fields}
-use Rattle.taskset.proofs.LimitLaws.{cost-uncharged, charge-uncharged, costs-uncharged, row-every, affinity-every}
+use Rattle.fields.specs.declared.Fields.{Fields}
+use Rattle.fields.proofs.LimitLaws.{cost-uncharged, charge-uncharged, costs-uncharged, row-every, affinity-every}
 use Rattle.oldform.specs.Form.{besideFields}
 use Rattle.oldform.specs.Limits.{beside, alone}
 use Rattle.oldform.proofs.FormLaws.{every-counted, every-affinity}
@@ -15,7 +16,8 @@ use Rattle.planner.proofs.PromiseLaws.{walk-rule}
 use Rattle.ceiling.proofs.PromiseLaws.{ceiling-promise}
 use Rattle.edf.specs.Tick.{owedFor}
 use Rattle.edf.proofs.DemandLaws.{owed-uncharged}
-use Rattle.start.proofs.StartLaws.{barred-every, start-alone}
+use Rattle.placing.proofs.PlacingLaws.{barred-every}
+use Rattle.start.proofs.StartLaws.{start-alone}
 use Rattle.guarantees.specs.Demands.{Uncharged, Every, Untied, UntiedCeiling, Alone}
 
 -- ---- no charge

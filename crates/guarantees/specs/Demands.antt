@@ -12,11 +12,13 @@ use Rattle.affinity.specs.Permitted.{permitted, everyCore}
 use Rattle.refusal.specs.Causes.{numberIn}
 use Rattle.refusal.specs.Conditions.{First, Fails, Gives, Decides}
 use Rattle.refusal.specs.declared.Outcome.the-variants.{Accepted}
-use Rattle.taskset.specs.Fields.{periodAt, budgetAt, costAt, affinityAt, Free}
-use Rattle.taskset.specs.Demands.{hyperperiodOf, demandOf, loadOn}
-use Rattle.taskset.specs.Limits.{Sized, Within, chargeAbove, budgetOutside, costAbove, rowOther, affinityUnfit, Reads}
+use Rattle.fields.specs.Fields.{periodAt, budgetAt, costAt, affinityAt, Free}
+use Rattle.fields.specs.Hyperperiod.{hyperperiodOf}
+use Rattle.taskset.specs.Demands.{demandOf, loadOn}
+use Rattle.fields.specs.Limits.{Sized, Within, chargeAbove, budgetOutside, costAbove, rowOther, affinityUnfit}
+use Rattle.taskset.specs.Promise.{Reads}
 use Rattle.taskset.specs.Table.{Table, bare, readingOf, Decided, Sound}
-use Rattle.taskset.specs.declared.Fields.{Fields}
+use Rattle.fields.specs.declared.Fields.{Fields}
 use Rattle.form.specs.Layout.{ReadsIn}
 use Rattle.oldform.specs.Form.{everyAffinity, FormBeside}
 use Rattle.oldform.specs.Limits.{beside, alone}
@@ -44,8 +46,9 @@ use Rattle.runner.specs.declared.Ticked.{Ticked}
 use Rattle.runner.specs.Answers.{tickAnswer}
 use Rattle.runner.specs.Records.{ValidRecord, recordConditions}
 use Rattle.runner.specs.Plain.{PlainRefusal}
+use Rattle.placing.specs.Limits.{coreAbove, coreBarred, placingAlone, placed}
 use Rattle.start.specs.Starts.{placedTasks, startOf}
-use Rattle.start.specs.Limits.{coreAbove, coreBarred, placingAlone, placed, Starts}
+use Rattle.start.specs.Promise.{Starts}
 
 -- What a call can be given: a stored table with any charge and core bytes beside it, one by itself, one in the new form, one that is to be moved back,
 -- fields that stand in no bytes, and fields that are to be written. Its tests are those of its limits, and its conditions those of the paper's table.

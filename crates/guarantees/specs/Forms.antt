@@ -6,17 +6,17 @@ use lib.ListN.{length, getD, take, drop}
 use Rattle.wire.specs.Bytes.{Bytes}
 use Rattle.refusal.specs.declared.Cause.the-variants.{Buffer}
 use Rattle.refusal.specs.declared.Outcome.the-variants.{Accepted}
-use Rattle.taskset.specs.Fields.{cut, Alike}
+use Rattle.fields.specs.Fields.{cut, Alike}
 use Rattle.taskset.specs.Reading.{acceptedReading}
-use Rattle.taskset.specs.declared.Fields.{Fields}
+use Rattle.fields.specs.declared.Fields.{Fields}
 use Rattle.taskset.specs.Table.{Table, lent, readingOf, Decided}
 use Rattle.oldform.specs.Form.{oldBytes, OldForm}
 use Rattle.oldform.specs.Limits.{beside, alone}
 use Rattle.newform.specs.Form.{newBytes, NewForm}
 use Rattle.newform.specs.Limits.{new}
-use Rattle.transfer.specs.Lent.{transferOf, exitOf}
+use Rattle.storing.specs.Lent.{transferOf, exitOf}
 use Rattle.transfer.specs.Tables.{written, returned}
-use Rattle.transfer.specs.Promise.{Stores, storedIn, Yields}
+use Rattle.storing.specs.Promise.{Stores, storedIn, Yields}
 use Rattle.planner.specs.Plan.{planOf}
 use Rattle.quick.specs.Quick.{quickOf}
 use Rattle.ceiling.specs.Ceiling.{ceilingOf}

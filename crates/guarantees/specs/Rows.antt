@@ -9,14 +9,14 @@ use Rattle.refusal.specs.Conditions.{Gives}
 use Rattle.refusal.specs.declared.Cause.the-variants.{Buffer}
 use Rattle.refusal.specs.declared.Outcome.the-variants.{Accepted}
 use Rattle.taskset.specs.Table.{Table, readingOf}
-use Rattle.taskset.specs.declared.Fields.{Fields}
+use Rattle.fields.specs.declared.Fields.{Fields}
 use Rattle.oldform.specs.Form.{oldTable, everyAffinity, oldBytes}
 use Rattle.oldform.specs.Limits.{beside, alone}
 use Rattle.newform.specs.Form.{newTable, newBytes}
 use Rattle.newform.specs.Limits.{new}
-use Rattle.transfer.specs.Lent.{transferOf, exitOf}
+use Rattle.storing.specs.Lent.{transferOf, exitOf}
 use Rattle.transfer.specs.Tables.{written, returned}
-use Rattle.transfer.specs.declared.Transfer.{Transfer}
+use Rattle.storing.specs.declared.Transfer.{Transfer}
 use Rattle.planner.specs.Plan.{planOf, verdictOutcome}
 use Rattle.planner.specs.declared.Allocation.{Allocation}
 use Rattle.planner.specs.declared.Verdict.{Verdict}

@@ -13,12 +13,12 @@ use Rattle.text.specs.Reader.{Item, number, readText, pieces, item, nothing}
 use Rattle.text.proofs.BackLaws.{word-part, number-part, field-part, Line, line-ends}
 use Rattle.affinity.specs.Permitted.{permittedCount, lowestPermitted}
 use Rattle.affinity.proofs.PermittedLaws.{count-within, lowest-within}
-use Rattle.taskset.specs.Fields.{periodAt, budgetAt, affinityAt}
-use Rattle.taskset.specs.Demands.{hyperperiodOf}
-use Rattle.taskset.specs.Limits.{Within}
+use Rattle.fields.specs.Fields.{periodAt, budgetAt, affinityAt}
+use Rattle.fields.specs.Hyperperiod.{hyperperiodOf}
+use Rattle.fields.specs.Limits.{Within}
 use Rattle.taskset.specs.Reading.{taskSetOf}
 use Rattle.taskset.specs.Table.{Table, Sound}
-use Rattle.taskset.specs.declared.Fields.{Fields}
+use Rattle.fields.specs.declared.Fields.{Fields}
 use Rattle.taskset.specs.declared.TaskSet.{TaskSet}
 use Rattle.listing.specs.Lines.{refusalLine, sizesLine, taskLine, taskLines, tableLines}
 use Rattle.listing.specs.Printed.{Printed}

@@ -9,9 +9,9 @@ use Rattle.numbers.specs.Sums.{sumFromOne}
 use Rattle.text.specs.Reader.{Item, number, word, readText, nothing}
 use Rattle.affinity.specs.Permitted.{permitted, IsLowest}
 use Rattle.refusal.specs.Conditions.{First}
-use Rattle.taskset.specs.Fields.{periodAt, budgetAt, affinityAt}
-use Rattle.taskset.specs.Demands.{hyperperiodOf}
-use Rattle.taskset.specs.declared.Fields.{Fields}
+use Rattle.fields.specs.Fields.{periodAt, budgetAt, affinityAt}
+use Rattle.fields.specs.Hyperperiod.{hyperperiodOf}
+use Rattle.fields.specs.declared.Fields.{Fields}
 use Rattle.taskset.specs.Table.{Table}
 
 -- the words `table` and `refused`

@@ -7,9 +7,9 @@ ghost use Rattle.text.specs.Shown.{shown, Appended};
 ghost use mathlib.Core.List.{[]};
 ghost use Rattle.listing.specs.Printed.{printed};
 ghost use Rattle.listing.specs.Lines.{refusalLine, sizesLine, taskLine, taskLines, tableLines};
+use fields::Fields;
 use refusal::Cause;
 use refusal::Outcome;
-use taskset::Fields;
 use taskset::TaskSet;
 use text::Text;
 

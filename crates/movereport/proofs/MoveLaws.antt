@@ -18,7 +18,7 @@ use Rattle.text.specs.declared.Text.{Text}
 use Rattle.text.proofs.ClipLaws.{append-whole}
 use Rattle.refusal.specs.declared.Cause.the-variants.{Buffer}
 use Rattle.taskset.specs.Table.{Table, Sound}
-use Rattle.taskset.specs.declared.Fields.{Fields}
+use Rattle.fields.specs.declared.Fields.{Fields}
 use Rattle.taskset.proofs.TableLaws.{table-accepts}
 use Rattle.oldform.specs.Form.{aloneFields, oldBytes}
 use Rattle.oldform.specs.Limits.{alone}
@@ -27,11 +27,11 @@ use Rattle.oldform.proofs.OldLaws.{alone-sound}
 use Rattle.newform.specs.Form.{newFields, newBytes}
 use Rattle.newform.specs.Limits.{new}
 use Rattle.newform.proofs.BackLaws.{new-long}
-use Rattle.transfer.specs.Lent.{transferBy, exitBy, transferAfter, exitAfter, transferOf, exitOf}
+use Rattle.storing.specs.Lent.{transferBy, exitBy, transferAfter, exitAfter, transferOf, exitOf}
 use Rattle.transfer.specs.Tables.{returned}
-use Rattle.transfer.specs.Promise.{storedIn}
-use Rattle.transfer.specs.declared.Transfer.{Transfer}
-use Rattle.transfer.proofs.StoreLaws.{transfer-outcome}
+use Rattle.storing.specs.Promise.{storedIn}
+use Rattle.storing.specs.declared.Transfer.{Transfer}
+use Rattle.storing.proofs.StoreLaws.{transfer-outcome}
 use Rattle.transfer.proofs.CallLaws.{returned-sound}
 use Rattle.listing.specs.Lines.{refusalLine}
 use Rattle.listing.specs.Printed.{printed}

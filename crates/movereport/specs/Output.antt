@@ -6,7 +6,7 @@ use Rattle.text.specs.Shown.{shown}
 use Rattle.refusal.specs.declared.Outcome.{Outcome}
 use Rattle.refusal.specs.Tests.{byOutcome}
 use Rattle.taskset.specs.Table.{Table}
-use Rattle.taskset.specs.declared.Fields.{Fields}
+use Rattle.fields.specs.declared.Fields.{Fields}
 use Rattle.listing.specs.Printed.{printed}
 use Rattle.movereport.specs.declared.Moved.{Moved}
 

@@ -5,7 +5,7 @@ use lib.ListN.{length}
 use Rattle.text.specs.Shown.{shown}
 use Rattle.refusal.specs.Conditions.{First}
 use Rattle.taskset.specs.Table.{Table}
-use Rattle.taskset.specs.declared.Fields.{Fields}
+use Rattle.fields.specs.declared.Fields.{Fields}
 use Rattle.listing.specs.Lines.{refusalLine}
 use Rattle.listing.specs.ReadBack.{RefusalRead}
 use Rattle.movereport.specs.Output.{Shows}

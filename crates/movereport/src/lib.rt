@@ -7,11 +7,11 @@ ghost use Rattle.oldform.specs.Form.{oldBytes};
 ghost use Rattle.oldform.specs.Limits.{alone};
 ghost use Rattle.newform.specs.Form.{newBytes};
 ghost use Rattle.transfer.specs.Tables.{returned};
-ghost use Rattle.transfer.specs.Promise.{storedIn};
+ghost use Rattle.storing.specs.Promise.{storedIn};
 ghost use Rattle.movereport.specs.Output.{Shows, MoveOutput};
 ghost use Rattle.movereport.specs.Reported.{MoveReported};
+use storing::Transfer;
 use text::Text;
-use transfer::Transfer;
 
 // The texts for standard output and for standard error.
 pub struct Moved {

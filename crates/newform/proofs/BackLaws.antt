@@ -10,10 +10,10 @@ use Rattle.numbers.proofs.RowLaws.{row-cong, row-again, take-row-tab}
 use Rattle.wire.specs.Bytes.{wordAt, byteAt, bytesOfAll, Bytes}
 use Rattle.wire.proofs.ReadBackLaws.{read-back, byte-front, word-front}
 use Rattle.wire.proofs.WriteBackLaws.{words-back, row-back, part-back, front-long, front-bytes, front-words}
-use Rattle.taskset.specs.Fields.{periodAt, budgetAt, affinityAt, cut}
-use Rattle.taskset.specs.Limits.{Within}
-use Rattle.taskset.specs.declared.Fields.{Fields}
-use Rattle.taskset.proofs.LimitLaws.{periods-there, budgets-there, affinity-there}
+use Rattle.fields.specs.Fields.{periodAt, budgetAt, affinityAt, cut}
+use Rattle.fields.specs.Limits.{Within}
+use Rattle.fields.specs.declared.Fields.{Fields}
+use Rattle.fields.proofs.LimitLaws.{periods-there, budgets-there, affinity-there}
 use Rattle.newform.specs.Form.{taskCount, newFields, newBytes, NewForm}
 use Rattle.newform.specs.Limits.{ValidNew}
 

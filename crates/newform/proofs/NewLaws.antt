@@ -13,11 +13,12 @@ use Rattle.refusal.specs.declared.Cause.the-variants.{FirstByte}
 use Rattle.refusal.specs.declared.Outcome.{Outcome}
 use Rattle.refusal.proofs.ConditionLaws.{join, one-tested, tested-as, unnamed}
 use Rattle.taskset.specs.Reading.{readingBy}
-use Rattle.taskset.specs.Limits.{sizes, chargeAbove, periodOutside, budgetOutside, costAbove, rowOther, affinityUnfit, multipleAbove, Reads}
+use Rattle.fields.specs.Limits.{sizes, chargeAbove, periodOutside, budgetOutside, costAbove, rowOther, affinityUnfit, multipleAbove}
+use Rattle.taskset.specs.Promise.{Reads}
 use Rattle.taskset.specs.Table.{readingOf, Decided, Sound}
-use Rattle.taskset.specs.declared.Fields.{Fields}
+use Rattle.fields.specs.declared.Fields.{Fields}
 use Rattle.taskset.specs.declared.Reading.{Reading}
-use Rattle.taskset.proofs.LimitLaws.{row-every}
+use Rattle.fields.proofs.LimitLaws.{row-every}
 use Rattle.taskset.proofs.TableLaws.{read-decided, read-reads}
 use Rattle.form.specs.Shape.{shortTest, tooShort, otherLength, formOutcome}
 use Rattle.form.specs.Layout.{fieldsAt, Bounded, ReadsIn}

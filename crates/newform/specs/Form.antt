@@ -5,8 +5,8 @@ use mathlib.Core.List.{List, _∷_, _++_}
 use lib.ListN.{length, getD, take}
 use Rattle.numbers.specs.Rows.{row}
 use Rattle.wire.specs.Bytes.{le32, byteAt, bytesOfAll}
-use Rattle.taskset.specs.Fields.{periodAt, budgetAt, affinityAt}
-use Rattle.taskset.specs.declared.Fields.{Fields}
+use Rattle.fields.specs.Fields.{periodAt, budgetAt, affinityAt}
+use Rattle.fields.specs.declared.Fields.{Fields}
 use Rattle.form.specs.Layout.{fieldsAt}
 
 -- byte 0: always 0, which is no number of tasks, so that no table of the old form is one of the new

@@ -10,7 +10,7 @@ use Rattle.refusal.specs.Tests.{_then_, refuseIf}
 use Rattle.refusal.specs.Conditions.{Condition, only}
 use Rattle.refusal.specs.declared.Cause.the-variants.{FirstByte}
 use Rattle.refusal.specs.declared.Outcome.{Outcome}
-use Rattle.taskset.specs.Limits.{Within, sizes, chargeAbove, periodOutside, budgetOutside, costAbove, affinityUnfit, multipleAbove}
+use Rattle.fields.specs.Limits.{Within, sizes, chargeAbove, periodOutside, budgetOutside, costAbove, affinityUnfit, multipleAbove}
 use Rattle.taskset.specs.Table.{Table}
 use Rattle.form.specs.Shape.{shortTest, tooShort, otherLength, formOutcome}
 use Rattle.newform.specs.Form.{firstByte, taskCount, newLength, newFields}

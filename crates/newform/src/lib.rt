@@ -1,14 +1,19 @@
 // The new stored form, which holds the charge and the core bytes: its bytes become fields, and these a task set or a refusal.
 ghost use mathlib.Core.Path.{_≡_};
-ghost use Rattle.taskset.specs.Limits.{Reads};
+ghost use Rattle.taskset.specs.Promise.{Reads};
 ghost use Rattle.taskset.specs.Table.{readingOf, Decided};
 ghost use Rattle.form.specs.Layout.{ReadsIn};
 ghost use Rattle.newform.specs.Form.{newFields, NewForm};
 ghost use Rattle.newform.specs.Limits.{firstTest, new};
+use fields::Fields;
 use refusal::Cause;
 use refusal::Outcome;
-use taskset::Fields;
 use taskset::Reading;
+
+// A table is four bytes, and nine for each task.
+pub const LEAD: usize = 4;
+
+pub const EACH: usize = 9;
 
 // The fields that the bytes say; bytes past the end count as 0.
 fn decode(s: &[u8]) -> Fields
@@ -16,8 +21,8 @@ fn decode(s: &[u8]) -> Fields
 {
     let n = wire::size(wire::byte(s, 1));
     let charge = wire::wide(wire::byte(s, 3));
-    let affinity = wire::bytes(s, 4 + 8 * n, n);
-    form::decode(s, 1, 4, charge, affinity, n)
+    let affinity = wire::bytes(s, LEAD + 8 * n, n);
+    form::decode(s, 1, LEAD, charge, affinity, n)
 }
 
 // Number 17.
@@ -36,8 +41,8 @@ pub fn read_new(table: &[u8]) -> Reading
 {
     let n = wire::size(wire::byte(table, 1));
     let f = decode(table);
-    let short = form::short_test(table, 4);
+    let short = form::short_test(table, LEAD);
     let first = first_test(table);
     let front = refusal::then(short, first);
-    form::read(front, table, 4 + 9 * n, f)
+    form::read(front, table, LEAD + EACH * n, f)
 }

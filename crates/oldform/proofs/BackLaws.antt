@@ -11,10 +11,10 @@ use Rattle.wire.specs.Bytes.{wordAt, bytesOfAll, Bytes}
 use Rattle.wire.proofs.ReadBackLaws.{read-back, word-front}
 use Rattle.wire.proofs.WriteBackLaws.{words-back, part-back, front-long, front-bytes, front-words}
 use Rattle.affinity.specs.Permitted.{everyCore}
-use Rattle.taskset.specs.Fields.{periodAt, budgetAt, affinityAt, cut}
-use Rattle.taskset.specs.Limits.{Within}
-use Rattle.taskset.specs.declared.Fields.{Fields}
-use Rattle.taskset.proofs.LimitLaws.{periods-there, budgets-there}
+use Rattle.fields.specs.Fields.{periodAt, budgetAt, affinityAt, cut}
+use Rattle.fields.specs.Limits.{Within}
+use Rattle.fields.specs.declared.Fields.{Fields}
+use Rattle.fields.proofs.LimitLaws.{periods-there, budgets-there}
 use Rattle.oldform.specs.Form.{taskCount, coreCount, besideFields, aloneFields, everyAffinity, oldBytes, OldForm}
 use Rattle.oldform.specs.Limits.{ValidBeside}
 

@@ -13,8 +13,8 @@ use Rattle.numbers.proofs.ZeroLaws.{getD-padded}
 use Rattle.wire.specs.Bytes.{wordAt, byteAt, bytesOfAll}
 use Rattle.wire.proofs.ReadBackLaws.{read-back, length-bytes}
 use Rattle.affinity.specs.Permitted.{everyCore}
-use Rattle.taskset.specs.Fields.{affinityAt}
-use Rattle.taskset.specs.declared.Fields.{Fields}
+use Rattle.fields.specs.Fields.{affinityAt}
+use Rattle.fields.specs.declared.Fields.{Fields}
 use Rattle.oldform.specs.Form.{taskCount, coreCount, oldFields, besideFields, everyAffinity, aloneFields, oldTable, FieldsReadBack}
 
 -- a row that is read back is the list, with zeros up to sixteen

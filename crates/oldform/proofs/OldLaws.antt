@@ -9,11 +9,12 @@ use Rattle.numbers.proofs.RowLaws.{getD-row, row-beyond}
 use Rattle.refusal.specs.Conditions.{Condition, None, Tested}
 use Rattle.refusal.proofs.ConditionLaws.{_also_, tested-as, unnamed, unnamed-all}
 use Rattle.taskset.specs.Reading.{readingBy}
-use Rattle.taskset.specs.Limits.{Sized, sizes, chargeAbove, periodOutside, budgetOutside, costAbove, rowOther, affinityUnfit, multipleAbove, Reads}
+use Rattle.fields.specs.Limits.{Sized, sizes, chargeAbove, periodOutside, budgetOutside, costAbove, rowOther, affinityUnfit, multipleAbove}
+use Rattle.taskset.specs.Promise.{Reads}
 use Rattle.taskset.specs.Table.{readingOf, Decided, Sound}
-use Rattle.taskset.specs.declared.Fields.{Fields}
+use Rattle.fields.specs.declared.Fields.{Fields}
 use Rattle.taskset.specs.declared.Reading.{Reading}
-use Rattle.taskset.proofs.LimitLaws.{sizes-kept, charge-uncharged, costs-uncharged, row-every, affinity-every}
+use Rattle.fields.proofs.LimitLaws.{sizes-kept, charge-uncharged, costs-uncharged, row-every, affinity-every}
 use Rattle.taskset.proofs.TableLaws.{read-decided, read-reads}
 use Rattle.form.specs.Shape.{tooShort, otherLength}
 use Rattle.form.specs.Layout.{Bounded, ReadsIn}

@@ -6,8 +6,8 @@ use lib.ListN.{length, getD, take, replicate}
 use Rattle.numbers.specs.Rows.{row, entry, padded}
 use Rattle.wire.specs.Bytes.{le32, bytesOfAll, Words}
 use Rattle.affinity.specs.Permitted.{everyCore}
-use Rattle.taskset.specs.Fields.{periodAt, budgetAt, affinityAt}
-use Rattle.taskset.specs.declared.Fields.{Fields}
+use Rattle.fields.specs.Fields.{periodAt, budgetAt, affinityAt}
+use Rattle.fields.specs.declared.Fields.{Fields}
 use Rattle.form.specs.Layout.{fieldsAt}
 
 -- byte 0: the number of tasks, n

@@ -6,9 +6,9 @@ use mathlib.Core.Logic.{_≢_}
 use lib.ListN.{length, getD}
 use Rattle.refusal.specs.Conditions.{Condition, only}
 use Rattle.refusal.specs.declared.Outcome.{Outcome}
-use Rattle.taskset.specs.Limits.{Within, sizes, chargeAbove, periodOutside, budgetOutside, costAbove, affinityUnfit, multipleAbove}
+use Rattle.fields.specs.Limits.{Within, sizes, chargeAbove, periodOutside, budgetOutside, costAbove, affinityUnfit, multipleAbove}
 use Rattle.taskset.specs.Table.{Table}
-use Rattle.taskset.specs.declared.Fields.{Fields}
+use Rattle.fields.specs.declared.Fields.{Fields}
 use Rattle.form.specs.Shape.{shortTest, tooShort, otherLength, formOutcome}
 use Rattle.oldform.specs.Form.{taskCount, oldLength, besideFields, everyAffinity, aloneFields}
 

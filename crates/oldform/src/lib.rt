@@ -4,19 +4,25 @@ ghost use mathlib.Core.Path.{_≡_};
 ghost use lib.ListN.{replicate};
 ghost use Rattle.numbers.specs.Rows.{row, entry};
 ghost use Rattle.taskset.specs.Reading.{readingBy};
-ghost use Rattle.taskset.specs.Limits.{Reads};
+ghost use Rattle.taskset.specs.Promise.{Reads};
 ghost use Rattle.taskset.specs.Table.{readingOf, Decided};
 ghost use Rattle.form.specs.Layout.{ReadsIn};
 ghost use Rattle.oldform.specs.Form.{oldFields, everyAffinity, FormBeside};
 ghost use Rattle.oldform.specs.Limits.{oldOutcome, beside, alone};
+use fields::MOST_TASKS;
 use taskset::Reading;
 
+// A table is two bytes, and eight for each task.
+pub const LEAD: usize = 2;
+
+pub const EACH: usize = 8;
+
 // A byte `n` times, at most sixteen, and zeros up to sixteen.
-fn repeated(byte: u8, n: usize) -> [u8; 16]
+fn repeated(byte: u8, n: usize) -> [u8; MOST_TASKS]
     ensures { λ r. ⌜ r ≡ row 0 n (entry (replicate n byte)) ⌝ }
 {
     let count = numbers::at_most_sixteen(n);
-    let mut entries = [0u8; 16];
+    let mut entries = [0u8; MOST_TASKS];
     let mut k = 0;
     while k < count {
         let next = numbers::with_byte(entries, k, byte);
@@ -27,13 +33,13 @@ fn repeated(byte: u8, n: usize) -> [u8; 16]
 }
 
 // Reads a table with this charge, and with sixteen core bytes of which so many were given.
-fn read_with(s: &[u8], charge: u32, affinity: [u8; 16], given: usize) -> Reading
+fn read_with(s: &[u8], charge: u32, affinity: [u8; MOST_TASKS], given: usize) -> Reading
     ensures { λ r. ⌜ r ≡ readingBy (oldOutcome (now (s .entry)) (oldFields (now (s .entry)) charge affinity given)) (oldFields (now (s .entry)) charge affinity given) ⌝ }
 {
     let n = wire::size(wire::byte(s, 0));
-    let f = form::decode(s, 0, 2, charge, affinity, given);
-    let short = form::short_test(s, 2);
-    form::read(short, s, 2 + 8 * n, f)
+    let f = form::decode(s, 0, LEAD, charge, affinity, given);
+    let short = form::short_test(s, LEAD);
+    form::read(short, s, LEAD + EACH * n, f)
 }
 
 // Reads a stored table with what is given beside it: the board's charge, and a core byte for each task. Its task set, or the first

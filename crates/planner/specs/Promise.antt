@@ -8,8 +8,8 @@ use Rattle.numbers.specs.Reorder.{scatter}
 use Rattle.numbers.specs.Rows.{entry}
 use Rattle.refusal.specs.Causes.{numberIn}
 use Rattle.affinity.specs.Permitted.{permitted}
-use Rattle.taskset.specs.Fields.{affinityAt}
-use Rattle.taskset.specs.declared.Fields.{Fields}
+use Rattle.fields.specs.Fields.{affinityAt}
+use Rattle.fields.specs.declared.Fields.{Fields}
 use Rattle.taskset.specs.Table.{Table}
 use Rattle.planning.specs.Problem.{tableProblem, orderOf}
 use Rattle.plans.specs.Safe.{choicesOf, Safe, StatedOrder}

@@ -1,6 +1,6 @@
 // The exact planner: the best plan of a stored table, within a step limit.
 ghost use mathlib.Core.Path.{_≡_};
-ghost use Rattle.taskset.specs.Limits.{Checked, Reads};
+ghost use Rattle.taskset.specs.Promise.{Checked, Reads};
 ghost use Rattle.taskset.specs.Table.{Decided};
 ghost use Rattle.oldform.specs.Limits.{beside};
 ghost use Rattle.planner.specs.Plan.{verdictOf, planFor, refusedPlan, planBy, planOf, verdictOutcome};

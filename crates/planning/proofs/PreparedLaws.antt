@@ -8,10 +8,11 @@ use Rattle.numbers.specs.Rows.{row, entry, tab, padded}
 use Rattle.numbers.specs.Sorting.{sorted}
 use Rattle.numbers.proofs.ReorderLaws.{scatter-padded}
 use Rattle.numbers.proofs.RowLaws.{row-each}
-use Rattle.taskset.specs.Fields.{affinityAt}
-use Rattle.taskset.specs.Demands.{hyperperiodOf, demandOf}
+use Rattle.fields.specs.Fields.{affinityAt}
+use Rattle.fields.specs.Hyperperiod.{hyperperiodOf}
+use Rattle.taskset.specs.Demands.{demandOf}
 use Rattle.taskset.specs.Reading.{taskSetOf}
-use Rattle.taskset.specs.Limits.{Checked}
+use Rattle.taskset.specs.Promise.{Checked}
 use Rattle.taskset.proofs.DemandLaws.{demand-range, hyperperiod-held}
 use Rattle.taskset.specs.declared.TaskSet.{TaskSet}
 use Rattle.allocation.specs.Placement.{problemOf}

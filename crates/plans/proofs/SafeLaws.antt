@@ -13,12 +13,13 @@ use Rattle.numbers.proofs.LoadLaws.{share, demand-listed}
 use Rattle.numbers.proofs.SumLaws.{sumTo-cong}
 use Rattle.numbers.proofs.RowLaws.{row-beyond, length-tab, getD-tab, getD-row, take-row}
 use Rattle.numbers.proofs.SortingLaws.{permutation-below}
-use Rattle.taskset.specs.Fields.{affinityAt}
+use Rattle.fields.specs.Fields.{affinityAt}
 use Rattle.taskset.specs.Demands.{demandOf, loadOn}
-use Rattle.taskset.specs.Limits.{Within}
+use Rattle.fields.specs.Limits.{Within}
 use Rattle.taskset.specs.Reading.{taskSetOf}
-use Rattle.taskset.proofs.DemandLaws.{hyperperiod-is, demand-exact, demand-range}
-use Rattle.taskset.specs.declared.Fields.{Fields}
+use Rattle.fields.proofs.HyperperiodLaws.{hyperperiod-is}
+use Rattle.taskset.proofs.DemandLaws.{demand-exact, demand-range}
+use Rattle.fields.specs.declared.Fields.{Fields}
 use Rattle.planning.specs.Problem.{tableProblem, orderOf}
 use Rattle.planning.proofs.PlainOrder.{in-order}
 use Rattle.planning.proofs.OrderLaws.{sorted-is}

@@ -8,9 +8,10 @@ use Rattle.numbers.specs.Multiples.{IsLcm}
 use Rattle.numbers.specs.Rows.{entry}
 use Rattle.numbers.specs.Sorting.{Permutation}
 use Rattle.affinity.specs.Permitted.{permitted, CoreByte}
-use Rattle.taskset.specs.Fields.{periodAt, budgetAt, affinityAt}
-use Rattle.taskset.specs.Demands.{hyperperiodOf, loadOn}
-use Rattle.taskset.specs.declared.Fields.{Fields}
+use Rattle.fields.specs.Fields.{periodAt, budgetAt, affinityAt}
+use Rattle.fields.specs.Hyperperiod.{hyperperiodOf}
+use Rattle.taskset.specs.Demands.{loadOn}
+use Rattle.fields.specs.declared.Fields.{Fields}
 use Rattle.planning.specs.Order.{InOrder}
 use Rattle.planning.specs.Problem.{tableProblem, orderOf}
 use Rattle.allocation.specs.Placement.{Feasible}

@@ -6,7 +6,7 @@ use mathlib.Core.Logic.{_≢_}
 use lib.ListN.{length, replicate}
 use Rattle.numbers.specs.Reorder.{gather}
 use Rattle.refusal.specs.Causes.{numberIn}
-use Rattle.taskset.specs.declared.Fields.{Fields}
+use Rattle.fields.specs.declared.Fields.{Fields}
 use Rattle.taskset.specs.Table.{Table}
 use Rattle.allocation.specs.FirstFit.{OnLowest}
 use Rattle.allocation.specs.TableOrder.{inPlanningOrder}

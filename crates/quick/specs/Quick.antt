@@ -7,7 +7,7 @@ use Rattle.refusal.specs.Tests.{byOutcome}
 use Rattle.refusal.specs.declared.Cause.{Cause}
 use Rattle.refusal.specs.declared.Outcome.{Outcome}
 use Rattle.refusal.specs.declared.Outcome.the-variants.{Accepted, Refused}
-use Rattle.taskset.specs.declared.Fields.{Fields}
+use Rattle.fields.specs.declared.Fields.{Fields}
 use Rattle.taskset.specs.Table.{Table}
 use Rattle.planning.specs.Problem.{tableProblem, orderOf}
 use Rattle.allocation.specs.Placement.{rejected}

@@ -1,6 +1,6 @@
 // The quick plan: first fit over the tasks in planning order, without a search and without a step limit.
 ghost use mathlib.Core.Path.{_≡_};
-ghost use Rattle.taskset.specs.Limits.{Checked, Reads};
+ghost use Rattle.taskset.specs.Promise.{Checked, Reads};
 ghost use Rattle.taskset.specs.Table.{Decided};
 ghost use Rattle.oldform.specs.Limits.{beside};
 ghost use Rattle.quick.specs.Quick.{quickFor, refusedQuick, quickBy, quickOf};

@@ -1,2 +1,1 @@
-pub mod PlacingLaws
 pub mod StartLaws

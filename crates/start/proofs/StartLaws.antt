@@ -3,93 +3,52 @@ use Prim.Native.Nat.{ℕ, _≤_, _<_}
 use native.Mathlib.Decide.{decLt}
 use native.Mathlib.Omega.{arith}
 use mathlib.Core.Path.{_≡_, refl, sym, _∙_, ap}
-use mathlib.Core.Bool.{not, true, false, true≢false}
-use mathlib.Core.Logic.{_≢_, _↔_, ⊎-elim, by-cases}
-use mathlib.Core.List.{List, [], _∷_, _++_}
-use borrow.Author.Tests.{eq-eqb, ne-eqb, not-true}
-use lib.ListN.{length}
+use mathlib.Core.Logic.{_≢_, by-cases}
+use mathlib.Core.List.{List, _++_}
+use borrow.Author.Tests.{eq-eqb, ne-eqb}
 use Rattle.numbers.specs.Rows.{entry}
-use Rattle.numbers.proofs.BoolLaws.{true-or-false}
-use Rattle.numbers.proofs.BoundLaws.{outside-exactly, not-outside, less-exactly, not-less, unequal-exactly, not-unequal}
 use Rattle.numbers.proofs.RowLaws.{getD-row, getD-row-above}
-use Rattle.affinity.specs.Permitted.{permitted, allowed, everyCore}
-use Rattle.affinity.proofs.PermittedLaws.{allowed-says, every-permits}
-use Rattle.refusal.specs.Tests.{inOrder}
-use Rattle.refusal.specs.Conditions.{Fails, Decides, Tested}
+use Rattle.refusal.specs.Conditions.{Decides}
 use Rattle.refusal.specs.declared.Cause.{Cause}
-use Rattle.refusal.specs.declared.Cause.the-variants.{Placement, CoreNumber, Overload, NotPermitted}
 use Rattle.refusal.specs.declared.Outcome.{Outcome}
 use Rattle.refusal.specs.declared.Outcome.the-variants.{Accepted, Refused}
 use Rattle.refusal.proofs.TestLaws.{accepted≢refused, then-first, then-refused, by-accepted, by-refused, by-both, by-says}
-use Rattle.refusal.proofs.ConditionLaws.{test-only, test-at, _and_, no-more, _also_, join-after, unnamed, decides}
-use Rattle.taskset.specs.declared.Fields.{Fields}
+use Rattle.refusal.proofs.ConditionLaws.{join-after, decides}
+use Rattle.fields.specs.declared.Fields.{Fields}
 use Rattle.taskset.specs.declared.TaskSet.{TaskSet}
 use Rattle.taskset.specs.declared.Reading.{Reading}
-use Rattle.taskset.specs.Fields.{affinityAt}
-use Rattle.taskset.specs.Demands.{hyperperiodOf, demandOf, loadOn}
-use Rattle.taskset.specs.Limits.{Within}
-use Rattle.taskset.proofs.DemandLaws.{hyperperiod-is, demand-exact}
+use Rattle.fields.specs.Hyperperiod.{hyperperiodOf}
+use Rattle.taskset.specs.Demands.{demandOf, loadOn}
+use Rattle.fields.specs.Limits.{Within}
+use Rattle.fields.proofs.HyperperiodLaws.{hyperperiod-is}
+use Rattle.taskset.proofs.DemandLaws.{demand-exact}
 use Rattle.taskset.specs.Table.{Table, readingOf, Decided, Sound}
-use Rattle.taskset.proofs.TableLaws.{also-sound, table-accepts, read-outcome, read-fields}
+use Rattle.taskset.proofs.TableLaws.{table-accepts, read-outcome, read-fields}
 use Rattle.oldform.specs.Form.{aloneFields}
 use Rattle.oldform.specs.Limits.{alone}
 use Rattle.oldform.proofs.FormLaws.{every-affinity}
 use Rattle.oldform.proofs.OldLaws.{alone-tested, alone-sound, alone-sized}
 use Rattle.edf.specs.declared.Slot.{Slot}
 use Rattle.edf.specs.Slots.{emptySlot, slotAt}
-use Rattle.edf.specs.Fresh.{freshSlot, freshSlots}
+use Rattle.edf.specs.Fresh.{slotFor, freshSlot, freshSlots}
 use Rattle.edf.specs.Guarantee.{WithinLimits, LoadFits}
 use Rattle.edf.proofs.GuaranteeLaws.{tick-guarantee}
+use Rattle.placing.specs.Tests.{placingOutcome}
+use Rattle.placing.specs.Limits.{Placed, placingAlone, placed}
+use Rattle.placing.proofs.PlacingLaws.{placed-sound, placing-tested-alone}
 use Rattle.start.specs.declared.Started.{Started}
-use Rattle.start.specs.Starts.{placedTasks, aboveAt, barredAt, placingOutcome, refusedStart, startFor, startBy, startOf}
-use Rattle.start.specs.Limits.{Placed, otherPlaces, coreAbove, coreBarred, numberOutside, loadAbove, placing, placingAlone, placed, Serves, Starts}
-
--- a placement that uses a core that a byte does not permit
-barred-exactly : (byte choice : ℕ) → (not (allowed byte choice) ≡ true) ↔ ((1 ≤ choice) × (permitted byte choice ≡ false))
-barred-exactly byte choice = (λ e. allowed-says byte choice .0 (not-true _ e), λ x. rw (allowed-says byte choice .1 x))
-
--- Each test of the placing reports its condition, and none holds exactly where the limits are kept.
-module _ (f : Fields) (placement : List ℕ) (core : ℕ) where
-  placing-tested : Tested (Placed f placement core) (placing f placement core) (placingOutcome f placement core)
-  unfolding placingOutcome inOrder aboveAt barredAt
-  placing-tested = record {
-    reports =
-        test-only (Placement 0) refl (unequal-exactly (length placement) (f .n))
-        and test-at Placement (λ k. (refl, refl)) (λ k. less-exactly (f .m) (entry placement k))
-        and test-at NotPermitted (λ k. (refl, refl)) (λ k. barred-exactly (affinityAt f k) (entry placement k))
-        and test-only CoreNumber refl (outside-exactly 1 (f .m) core)
-        and test-only Overload refl (less-exactly (hyperperiodOf f) (loadOn f placement core))
-        and no-more;
-    valid = (
-      λ n. record {
-        exact = not-unequal _ _ (n .0);
-        entries = λ k h. not-less _ _ (n .1 .0 k h);
-        permitted = λ k h l. ⊎-elim (λ e. e) (λ e. absurd (n .1 .1 .0 k h (l, e))) (true-or-false _);
-        number = not-outside 1 (f .m) core .0 (n .1 .1 .1 .0);
-        fits = not-less _ _ (n .1 .1 .1 .1 .0);
-      },
-      λ v.
-          (λ n. n (v .exact))
-          also (λ k h g. omega (arith, v .entries k h))
-          also (λ k h x. true≢false (sym (v .permitted k h (x .0)) ∙ x .1))
-          also not-outside 1 (f .m) core .1 (v .number)
-          also (λ g. omega (arith, v .fits))
-          also tt,
-    );
-  }
+use Rattle.start.specs.Starts.{placedTasks, refusedStart, startFor, startBy, startOf}
+use Rattle.start.specs.Promise.{Serves, Starts}
 
 -- the answer's outcome is that of the tests
 module _ {t : Table} (sound : Sound t) (placement : List ℕ) (core : ℕ) where
-  placed-sound : Sound (placed t placement core)
-  placed-sound = also-sound sound (placing-tested (t .fields) placement core)
-
   by-outcome : (o : Outcome) → startBy placement core o (t .fields) .outcome ≡ o
   unfolding startBy startFor refusedStart
   by-outcome o = by-says refusedStart (startFor placement core) (λ r. r .outcome) (λ c. refl) (λ f. refl) o (t .fields)
 
   pub start-decided : {r : Started} → r ≡ startOf t placement core → Decided (placed t placement core) (r .outcome)
   unfolding startOf
-  start-decided e = rw (e, by-outcome) (decides (placed-sound .tested))
+  start-decided e = rw (e, by-outcome) (decides (placed-sound sound placement core .tested))
 
   -- the limits that the tick guarantee rests on
   module _ (w : Within (t .fields)) where
@@ -147,7 +106,7 @@ module _ {t : Table} (sound : Sound t) (placement : List ℕ) (core : ℕ) where
   start-promised e =
       rw e (by-both refusedStart (startFor placement core) (Starts t placement core) (placed t placement core .outcome) (t .fields)
       (λ c q. record { accepted = λ a. absurd (accepted≢refused a refl); refused = λ n. refl })
-      (λ q. record { accepted = λ a. serves (table-accepts placed-sound .0 q); refused = λ n. absurd (n refl) }))
+      (λ q. record { accepted = λ a. serves (table-accepts (placed-sound sound placement core) .0 q); refused = λ n. absurd (n refl) }))
 
   -- all that is said of the answer
   pub start-all : {r : Started} → r ≡ startOf t placement core → (r ≡ startOf t placement core) × (Decided (placed t placement core) (r .outcome) × Starts t placement core r)
@@ -164,20 +123,6 @@ module _ (t : Table) (placement : List ℕ) (core : ℕ) {reading : Reading} (e 
   unfolding startOf
   start-checked a h =
       rw (then-first (t .outcome) (placingOutcome (t .fields) placement core) (sym (read-outcome t e) ∙ a)) (rw (read-fields t e a) at h)
-
--- The byte of every core permits each, so where each task has it number 16 holds only where number 9 does.
-module _ (f : Fields) (placement : List ℕ) where
-  pub barred-every : f .m ≤ 4 → ((k : ℕ) → k < f .n → affinityAt f k ≡ everyCore (f .m))
-      → Fails (coreAbove f placement) → Fails (coreBarred f placement)
-  barred-every few every n k h x =
-      true≢false (sym (every-permits (f .m) few (entry placement k) (x .0) (not-less _ _ (n k h)))
-      ∙ rw (← every k h) (x .1))
-
-  placing-tested-alone : (core : ℕ) → f .m ≤ 4 → ((k : ℕ) → k < f .n → affinityAt f k ≡ everyCore (f .m))
-      → Tested (Placed f placement core) (placingAlone f placement core) (placingOutcome f placement core)
-  placing-tested-alone core few every =
-      unnamed (otherPlaces f placement ∷ coreAbove f placement ∷ []) (coreBarred f placement) (numberOutside f core ∷ loadAbove f placement core ∷ [])
-      (λ n. barred-every few every (n .1 .0)) (placing-tested f placement core)
 
 -- With charge 0 and every core permitted the table has numbers 1 to 7, and the placing numbers 9, 10 and 11.
 pub start-alone : (table placement : List ℕ) (core : ℕ)
@@ -202,3 +147,9 @@ module _ (t : TaskSet) (placement : List ℕ) (core : ℕ) {o : Outcome} (p : o 
   start-yes q e =
       ap (λ x. record { outcome = Accepted; core = record { slots = x; charge = t .fields .charge } }) e
       ∙ sym (by-accepted refusedStart (startFor placement core) (t .fields) (sym p ∙ q))
+
+-- A loop that fills the slots of a fresh record: the slot of task k.
+pub slot-made : (f : Fields) (placement : List ℕ) (core k : ℕ) {v : Slot} {placed : ℕ} → placed ≡ entry placement k
+    → v ≡ slotFor (entry (f .periods) k) (entry (f .budgets) k) 0 placed core → v ≡ freshSlot (placedTasks f placement) core k
+unfolding freshSlot
+slot-made f placement core k e q = rw e at q

@@ -1,2 +1,2 @@
 pub mod Starts
-pub mod Limits
+pub mod Promise

@@ -1,4 +1,3 @@
 pub mod DemandLaws
-pub mod LimitLaws
 pub mod ReadingLaws
 pub mod TableLaws

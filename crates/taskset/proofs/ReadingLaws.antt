@@ -11,13 +11,14 @@ use Rattle.refusal.specs.declared.Outcome.the-variants.{Accepted, Refused}
 use Rattle.refusal.proofs.CauseLaws.{number-range}
 use Rattle.refusal.proofs.TestLaws.{accepted≢refused, outcome-cases, then-accepted, then-first, then-refused, by-says}
 use Rattle.refusal.proofs.TestLaws as tests
-use Rattle.taskset.specs.Tests.{sizeTests, limitTests}
+use Rattle.fields.specs.Tests.{sizeTests, limitTests}
 use Rattle.taskset.specs.Reading.{taskSetOf, noTasks, refusedReading, acceptedReading, readingBy}
-use Rattle.taskset.specs.Limits.{Sized, Within, Checked, Reads}
-use Rattle.taskset.specs.declared.Fields.{Fields}
+use Rattle.fields.specs.Limits.{Sized, Within}
+use Rattle.taskset.specs.Promise.{Checked, Reads}
+use Rattle.fields.specs.declared.Fields.{Fields}
 use Rattle.taskset.specs.declared.Reading.{Reading}
 use Rattle.taskset.proofs.DemandLaws.{taskSet-exact}
-use Rattle.taskset.proofs.LimitLaws.{sizes-reported, sizes-kept, limits-reported, limits-kept}
+use Rattle.fields.proofs.LimitLaws.{sizes-reported, sizes-kept, limits-reported, limits-kept}
 
 -- the answer's outcome is that of the tests
 pub reading-outcome : (o : Outcome) (f : Fields) → readingBy o f .outcome ≡ o

@@ -11,13 +11,14 @@ use Rattle.refusal.specs.declared.Outcome.{Outcome}
 use Rattle.refusal.specs.declared.Outcome.the-variants.{Accepted}
 use Rattle.refusal.proofs.TestLaws.{outcome-cases, inOrder-append, then-accepted, then-refused, by-accepted, by-refused, by-both}
 use Rattle.refusal.proofs.ConditionLaws.{then-reports, none-append, join-after, room-tested, decides, accepts}
-use Rattle.taskset.specs.Tests.{sizeTests, limitTests, fieldsOutcome}
+use Rattle.fields.specs.Tests.{sizeTests, limitTests, fieldsOutcome}
 use Rattle.taskset.specs.Reading.{taskSetOf, refusedReading, acceptedReading, readingBy}
-use Rattle.taskset.specs.Limits.{Sized, Within, limits, Reads}
+use Rattle.fields.specs.Limits.{Sized, Within, limits}
+use Rattle.taskset.specs.Promise.{Reads}
 use Rattle.taskset.specs.Table.{Table, bare, also, lent, readingOf, Decided, Sound}
-use Rattle.taskset.specs.declared.Fields.{Fields}
+use Rattle.fields.specs.declared.Fields.{Fields}
 use Rattle.taskset.specs.declared.Reading.{Reading}
-use Rattle.taskset.proofs.LimitLaws.{limits-reported, limits-kept, within-kept, fields-tested}
+use Rattle.fields.proofs.LimitLaws.{limits-reported, limits-kept, within-kept, fields-tested}
 use Rattle.taskset.proofs.ReadingLaws.{reading-outcome, reading-promised}
 
 -- The limits of fields, after tests that accept only right sizes.

@@ -1,21 +1,13 @@
--- The hyperperiod, the exact demands and the exact load of a core.
+-- The exact demands and the exact load of a core.
 use Prim.Native.Nat.{ℕ, _*_, _/_}
 use mathlib.Core.Bool.{cond}
 use mathlib.Core.List.{List}
 use lib.Dec.{eqb}
-use Rattle.numbers.specs.Multiples.{lcms}
 use Rattle.numbers.specs.Rows.{entry}
 use Rattle.numbers.specs.Sums.{sumTo}
-use Rattle.taskset.specs.Fields.{periodAt, costAt}
-use Rattle.taskset.specs.declared.Fields.{Fields}
-
--- the least common multiple of the first k periods
-unfoldable pub multipleTo : Fields → ℕ → ℕ
-multipleTo f k = lcms (periodAt f) k
-
--- the hyperperiod (the paper's frame H): the least common multiple of the periods
-unfoldable pub hyperperiodOf : Fields → ℕ
-hyperperiodOf f = multipleTo f (f .n)
+use Rattle.fields.specs.Hyperperiod.{hyperperiodOf}
+use Rattle.fields.specs.Fields.{periodAt, costAt}
+use Rattle.fields.specs.declared.Fields.{Fields}
 
 -- the demand (the paper's weight) of a task: its budget plus the charge, multiplied by the hyperperiod and divided by its period
 unfoldable pub demandOf : Fields → ℕ → ℕ

@@ -1,6 +1,4 @@
-pub mod Fields
 pub mod Demands
-pub mod Tests
 pub mod Reading
-pub mod Limits
+pub mod Promise
 pub mod Table

@@ -1,26 +1,16 @@
 -- What a check of fields gives.
-use mathlib.Core.Bool.{cond}
-use lib.Dec.{eqb}
 use lib.ListN.{replicate}
-use Rattle.numbers.specs.First.{first}
 use Rattle.numbers.specs.Rows.{row}
 use Rattle.refusal.specs.Tests.{byOutcome}
 use Rattle.refusal.specs.declared.Cause.{Cause}
 use Rattle.refusal.specs.declared.Outcome.{Outcome}
 use Rattle.refusal.specs.declared.Outcome.the-variants.{Accepted, Refused}
-use Rattle.taskset.specs.Demands.{hyperperiodOf, demandOf}
-use Rattle.taskset.specs.Tests.{exceeds}
-use Rattle.taskset.specs.declared.Fields.{Fields}
-use Rattle.taskset.specs.declared.Multiple.{Multiple}
+use Rattle.fields.specs.Most.{mostTasks}
+use Rattle.fields.specs.Hyperperiod.{hyperperiodOf}
+use Rattle.taskset.specs.Demands.{demandOf}
+use Rattle.fields.specs.declared.Fields.{Fields}
 use Rattle.taskset.specs.declared.TaskSet.{TaskSet}
 use Rattle.taskset.specs.declared.Reading.{Reading}
-
--- the first task at which the least common multiple exceeds 1,000,000, or the hyperperiod where there is none
-unfoldable pub multipleOf : Fields → Multiple
-multipleOf f = record {
-  exceeded = first (exceeds f) (f .n);
-  value = cond (eqb (first (exceeds f) (f .n)) 0) (hyperperiodOf f) 0;
-}
 
 -- the task set of fields within the limits
 unfoldable pub taskSetOf : Fields → TaskSet
@@ -29,9 +19,9 @@ taskSetOf f = record { fields = f; hyperperiod = hyperperiodOf f; demands = row 
 -- all zeros
 unfoldable pub noTasks : TaskSet
 noTasks = record {
-  fields = record { n = 0; m = 0; charge = 0; periods = replicate 16 0; budgets = replicate 16 0; affinity = replicate 16 0; given = 0 };
+  fields = record { n = 0; m = 0; charge = 0; periods = replicate mostTasks 0; budgets = replicate mostTasks 0; affinity = replicate mostTasks 0; given = 0 };
   hyperperiod = 0;
-  demands = replicate 16 0;
+  demands = replicate mostTasks 0;
 }
 
 -- the answer where fields are refused: zeros beside the cause

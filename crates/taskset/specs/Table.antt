@@ -6,9 +6,9 @@ use Rattle.refusal.specs.Conditions.{Condition, Decides, Tested, noRoom}
 use Rattle.refusal.specs.declared.Cause.{Cause}
 use Rattle.refusal.specs.declared.Outcome.{Outcome}
 use Rattle.taskset.specs.Reading.{readingBy}
-use Rattle.taskset.specs.Tests.{fieldsOutcome}
-use Rattle.taskset.specs.Limits.{Within, fieldConditions}
-use Rattle.taskset.specs.declared.Fields.{Fields}
+use Rattle.fields.specs.Tests.{fieldsOutcome}
+use Rattle.fields.specs.Limits.{Within, fieldConditions}
+use Rattle.fields.specs.declared.Fields.{Fields}
 use Rattle.taskset.specs.declared.Reading.{Reading}
 
 -- What it says, whether or not it is within the limits; the outcome of its tests; and, as plain statements, its limits and its

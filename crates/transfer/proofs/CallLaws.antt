@@ -1,90 +1,41 @@
--- A call that stores the fields of a sound table, once for every table, every bytes of fields and every cause; then the writer and the moves.
+-- The writer and the moves: their tables are sound and storable, and what they promise.
 use Prim.Native.Nat.{ℕ, _+_, _*_, _≤_}
 use mathlib.Core.Path.{_≡_, refl, sym, _∙_, ap}
 use mathlib.Core.List.{List, [], _∷_, _++_}
 use lib.ListN.{length, getD, length-replicate}
-use borrow.Author.Tests.{le-ltb}
 use Rattle.wire.specs.Bytes.{Bytes}
-use Rattle.refusal.specs.Causes.{numberOf, placeOf}
-use Rattle.refusal.specs.Tests.{_then_, refuseIf, byOutcome}
-use Rattle.refusal.specs.declared.Cause.{Cause}
+use Rattle.refusal.specs.Tests.{_then_}
 use Rattle.refusal.specs.declared.Cause.the-variants.{Buffer}
 use Rattle.refusal.specs.declared.Outcome.{Outcome}
 use Rattle.refusal.specs.declared.Outcome.the-variants.{Accepted}
-use Rattle.refusal.proofs.TestLaws.{then-accepted}
-use Rattle.refusal.proofs.ConditionLaws.{unnamed, decides, accepts}
-use Rattle.taskset.specs.Fields.{Free, cut}
-use Rattle.taskset.specs.Tests.{fieldsOutcome}
+use Rattle.refusal.proofs.ConditionLaws.{unnamed}
+use Rattle.fields.specs.Fields.{Free, cut}
+use Rattle.fields.specs.Tests.{fieldsOutcome}
 use Rattle.taskset.specs.Reading.{acceptedReading, readingBy}
-use Rattle.taskset.specs.Limits.{Within, sizes, chargeAbove, periodOutside, budgetOutside, costAbove, rowOther, affinityUnfit, multipleAbove, Reads}
-use Rattle.taskset.specs.Table.{Table, bare, also, lent, readingOf, Decided, Sound}
-use Rattle.taskset.specs.declared.Fields.{Fields}
+use Rattle.fields.specs.Limits.{Within, sizes, chargeAbove, periodOutside, budgetOutside, costAbove, rowOther, affinityUnfit, multipleAbove}
+use Rattle.taskset.specs.Table.{bare, readingOf, Sound}
+use Rattle.fields.specs.declared.Fields.{Fields}
 use Rattle.taskset.specs.declared.Reading.{Reading}
-use Rattle.taskset.proofs.LimitLaws.{row-every, fields-tested}
-use Rattle.taskset.proofs.TableLaws.{also-after, table-accepts, valid-reading, read-outcome, read-fields, read-reads, also-reading}
+use Rattle.fields.proofs.LimitLaws.{row-every, fields-tested}
+use Rattle.taskset.proofs.TableLaws.{also-after, valid-reading, also-reading}
 use Rattle.oldform.specs.Form.{taskCount, besideFields, everyAffinity, aloneFields, oldBytes, OldForm}
 use Rattle.oldform.specs.Limits.{ValidBeside, alone}
 use Rattle.oldform.proofs.FormLaws.{every-affinity}
 use Rattle.oldform.proofs.BackLaws.{old-long, old-form, old-read-back, old-write-back, cut-alone}
 use Rattle.oldform.proofs.OldLaws.{alone-sound}
 use Rattle.newform.specs.Form.{newFields, newBytes, NewForm}
-use Rattle.newform.specs.Limits.{ValidNew, newOutcome, new}
+use Rattle.newform.specs.Limits.{ValidNew, new}
 use Rattle.newform.proofs.BackLaws.{new-long, new-form, new-read-back, new-write-back, cut-read}
 use Rattle.newform.proofs.NewLaws.{new-sound}
-use Rattle.transfer.specs.Lent.{transferBy, exitBy, transferAfter, exitAfter, transferOf, exitOf}
-use Rattle.transfer.specs.Tables.{counted, written, fillingTest, otherFilling, returned}
-use Rattle.transfer.specs.Promise.{Stores, storedIn, ReadBack, Unread, Yields, MovedOn, MovedBack}
-use Rattle.transfer.specs.declared.Transfer.{Transfer}
-use Rattle.transfer.proofs.StoreLaws.{transfer-same, output-same, transfer-outcome, stored-tested, well, stored-is, stored-keeps}
+use Rattle.storing.specs.Lent.{transferOf, exitOf}
+use Rattle.storing.specs.Promise.{Yields}
+use Rattle.storing.specs.declared.Transfer.{Transfer}
+use Rattle.storing.proofs.StoreLaws.{transfer-same, output-same}
+use Rattle.storing.proofs.StorableLaws.{Storable, call-valid, call-stored, yields}
+use Rattle.transfer.specs.Tables.{counted, written, fillingTest, returned}
+use Rattle.transfer.specs.Promise.{ReadBack, Unread, MovedOn, MovedBack}
 use Rattle.transfer.proofs.FillingLaws.{every-free, free-every, filling-tested}
 use Rattle.transfer.proofs.UnreadLaws.{tested-within, outcome-alike, bytes-alike, within-cut}
-
--- A sound table t whose fields are stored as these bytes, of this size, in this form.
-pub record Storable (bytes : Fields → List ℕ) (Form : List ℕ → Type 0) (size : ℕ) (t : Table) : Type 0 where
-  pub sound : Sound t
-  pub long : t .Valid → length (bytes (t .fields)) ≡ size
-  pub form : t .Valid → (behind : List ℕ) → Form (bytes (t .fields) ++ behind)
-
-module _ (cause : Cause) (z : placeOf cause ≡ 0) {bytes : Fields → List ℕ} {Form : List ℕ → Type 0} {size : ℕ} {t : Table} (s : Storable bytes Form size t) where
-  valid : t .outcome ≡ Accepted → t .Valid
-  valid = table-accepts (s .sound) .0
-
-  -- the steps of a program that goes by the table's reading
-  module _ {g : Reading} (c : g ≡ readingOf t) where
-    bytes-same : t .outcome ≡ Accepted → bytes (g .tasks .fields) ≡ bytes (t .fields)
-    bytes-same q = ap bytes (read-fields t c (read-outcome t c ∙ q))
-
-    pub call-answer : (room : ℕ) {r : Transfer} → r ≡ transferAfter cause (g .outcome) (bytes (g .tasks .fields)) room → r ≡ transferOf cause bytes t room
-    call-answer room h = h ∙ transfer-same cause (read-outcome t c) bytes-same room
-
-    pub call-output : (out : List ℕ) {after : List ℕ} → after ≡ exitAfter cause (g .outcome) (bytes (g .tasks .fields)) out → after ≡ exitOf cause bytes t out
-    call-output out h = h ∙ output-same cause (read-outcome t c) bytes-same out
-
-  -- what its answer and output promise
-  module _ (out : List ℕ) {after : List ℕ} {r : Transfer} (e : r ≡ transferOf cause bytes t (length out)) (g : after ≡ exitOf cause bytes t out) where
-    pub call-decides : Decided (lent cause (numberOf cause) t size (length out)) (r .outcome)
-    call-decides =
-        rw (e, transfer-outcome cause (t .outcome) (bytes (t .fields)) (length out))
-        (decides (stored-tested cause z (t .outcome) (bytes (t .fields)) size (length out) (s .sound .tested) (s .long)))
-
-    pub call-stores : Stores Form size out r after
-    call-stores = stored-keeps cause Form size (t .outcome) (bytes (t .fields)) out (λ q. s .long (valid q)) (λ q. s .form (valid q)) e g
-
-    pub call-valid : r .outcome ≡ Accepted → t .Valid
-    call-valid q = valid (well cause Form size (t .outcome) (bytes (t .fields)) out (λ x. s .long (valid x)) (λ x. s .form (valid x)) e g q)
-
-    pub call-stored : r .outcome ≡ Accepted → storedIn r after ≡ bytes (t .fields)
-    call-stored = stored-is cause Form size (t .outcome) (bytes (t .fields)) out (λ q. s .long (valid q)) (λ q. s .form (valid q)) e g
-
--- A call whose table is valid gives its bytes, wherever there is room.
-pub yields : (cause : Cause) (bytes : Fields → List ℕ) {t : Table} → Sound t → t .Valid → (s : List ℕ) → bytes (t .fields) ≡ s → Yields cause bytes t s
-unfolding transferAfter transferBy exitAfter exitBy byOutcome refuseIf _then_
-yields cause bytes sound v s e =
-    let q = table-accepts sound .1 v in
-    record {
-      answers = λ room h. rw (q, e, le-ltb room (length s) h);
-      outputs = λ out h. rw (q, e, le-ltb (length out) (length s) h);
-    }
 
 -- ---- the writer
 

@@ -17,9 +17,9 @@ use Rattle.affinity.proofs.PermittedLaws.{every-byte, every-permits, some-barre
 use Rattle.refusal.specs.declared.Cause.the-variants.{Filling}
 use Rattle.refusal.specs.Conditions.{Tested}
 use Rattle.refusal.proofs.ConditionLaws.{test-only}
-use Rattle.taskset.specs.Fields.{affinityAt, Free, Tied}
-use Rattle.taskset.specs.Limits.{Within}
-use Rattle.taskset.specs.declared.Fields.{Fields}
+use Rattle.fields.specs.Fields.{affinityAt, Free, Tied}
+use Rattle.fields.specs.Limits.{Within}
+use Rattle.fields.specs.declared.Fields.{Fields}
 use Rattle.transfer.specs.Tables.{otherByte, fillingTest, otherFilling}
 
 -- numbers that a test does not find unequal

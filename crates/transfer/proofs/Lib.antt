@@ -1,5 +1,3 @@
-pub mod PutLaws
-pub mod StoreLaws
 pub mod FillingLaws
 pub mod UnreadLaws
 pub mod CallLaws

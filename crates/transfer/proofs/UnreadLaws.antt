@@ -14,12 +14,12 @@ use Rattle.numbers.proofs.RowLaws.{getD-row, by-entries}
 use Rattle.wire.proofs.WriteBackLaws.{front-long}
 use Rattle.refusal.specs.declared.Outcome.the-variants.{Accepted}
 use Rattle.refusal.proofs.ConditionLaws.{decides, accepts}
-use Rattle.taskset.specs.Fields.{periodAt, budgetAt, affinityAt, cut, Alike}
-use Rattle.taskset.specs.Demands.{multipleTo}
-use Rattle.taskset.specs.Tests.{badPeriod, badBudget, badCost, badAffinity, exceeds, fieldsOutcome}
-use Rattle.taskset.specs.Limits.{Within}
-use Rattle.taskset.specs.declared.Fields.{Fields}
-use Rattle.taskset.proofs.LimitLaws.{fields-tested, periods-there, budgets-there, affinity-there}
+use Rattle.fields.specs.Fields.{periodAt, budgetAt, affinityAt, cut, Alike}
+use Rattle.fields.specs.Hyperperiod.{multipleTo}
+use Rattle.fields.specs.Tests.{badPeriod, badBudget, badCost, badAffinity, exceeds, fieldsOutcome}
+use Rattle.fields.specs.Limits.{Within}
+use Rattle.fields.specs.declared.Fields.{Fields}
+use Rattle.fields.proofs.LimitLaws.{fields-tested, periods-there, budgets-there, affinity-there}
 use Rattle.newform.specs.Form.{newBytes}
 use Rattle.transfer.specs.Tables.{counted}
 

@@ -11,11 +11,11 @@ use Rattle.refusal.specs.Tests.{refuseIf}
 use Rattle.refusal.specs.Conditions.{Condition, only}
 use Rattle.refusal.specs.declared.Cause.the-variants.{Filling}
 use Rattle.refusal.specs.declared.Outcome.{Outcome}
-use Rattle.taskset.specs.Fields.{affinityAt, Free, Tied}
-use Rattle.taskset.specs.Tests.{fieldsOutcome}
-use Rattle.taskset.specs.Limits.{Within, sizes, chargeAbove, periodOutside, budgetOutside, costAbove, affinityUnfit, multipleAbove}
+use Rattle.fields.specs.Fields.{affinityAt, Free, Tied}
+use Rattle.fields.specs.Tests.{fieldsOutcome}
+use Rattle.fields.specs.Limits.{Within, sizes, chargeAbove, periodOutside, budgetOutside, costAbove, affinityUnfit, multipleAbove}
 use Rattle.taskset.specs.Table.{Table, also}
-use Rattle.taskset.specs.declared.Fields.{Fields}
+use Rattle.fields.specs.declared.Fields.{Fields}
 use Rattle.newform.specs.Limits.{new}
 
 -- fields with a core byte for each task, as the new form has it

@@ -1,7 +1,7 @@
 -- The shape is tested, then the limits of the fields.
 use mathlib.Core.Path.{_∙_, ap}
 use Rattle.refusal.specs.Tests.{_then_, inOrder}
-use Rattle.taskset.specs.Tests.{limitTests}
+use Rattle.fields.specs.Tests.{limitTests}
 use Rattle.taskset.specs.Reading.{readingBy}
 use Rattle.form.specs.Shape.{formOutcome}
 use Rattle.form.proofs.ShapeLaws.{shape-says}

@@ -4,7 +4,7 @@ use Rattle.numbers.proofs.RowLaws.{Filled, fill-start, fill-next, fill-done}
 use Rattle.edf.specs.Slots.{emptySlot}
 use Rattle.edf.specs.Fresh.{freshSlot, freshSlots}
 use Rattle.start.specs.Starts.{placedTasks}
-use Rattle.start.proofs.PlacingLaws.{slot-made}
+use Rattle.start.proofs.StartLaws.{slot-made}
 use borrow.Author.Needs.{needs}
 use Rattle.start.proofs.fresh_slots.Statement.{statement}
 use Rattle.start.proofs.fresh_slots.Tie as tie

@@ -3,7 +3,8 @@ use native.Mathlib.Omega.{arith}
 use mathlib.Core.Path.{refl}
 use lib.ListN.{length}
 use Rattle.refusal.specs.declared.Cause.the-variants.{Buffer}
-use Rattle.transfer.proofs.CallLaws.{call-answer, call-output, call-decides, call-stores, moving, moved-on}
+use Rattle.storing.proofs.StorableLaws.{call-answer, call-output, call-decides, call-stores}
+use Rattle.transfer.proofs.CallLaws.{moving, moved-on}
 use borrow.Author.Needs.{needs}
 use Rattle.transfer.proofs.to_new.Statement.{statement}
 use Rattle.transfer.proofs.to_new.Tie as tie

@@ -5,7 +5,8 @@ use lib.ListN.{length}
 use Rattle.refusal.specs.declared.Cause.the-variants.{Buffer}
 use Rattle.taskset.proofs.ReadingLaws.{reads-few}
 use Rattle.taskset.proofs.TableLaws.{read-reads}
-use Rattle.transfer.proofs.CallLaws.{call-answer, call-output, call-decides, call-stores, returned-sound, returning, returned-reading, moved-back}
+use Rattle.storing.proofs.StorableLaws.{call-answer, call-output, call-decides, call-stores}
+use Rattle.transfer.proofs.CallLaws.{returned-sound, returning, returned-reading, moved-back}
 use borrow.Author.Needs.{needs}
 use Rattle.transfer.proofs.to_old.Statement.{statement}
 use Rattle.transfer.proofs.to_old.Tie as tie

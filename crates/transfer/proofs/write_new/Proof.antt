@@ -2,7 +2,8 @@
 use mathlib.Core.Path.{refl}
 use lib.ListN.{length}
 use Rattle.refusal.specs.declared.Cause.the-variants.{Buffer}
-use Rattle.transfer.proofs.CallLaws.{call-answer, call-output, call-decides, call-stores, writing, written-reading, write-back, write-unread}
+use Rattle.storing.proofs.StorableLaws.{call-answer, call-output, call-decides, call-stores}
+use Rattle.transfer.proofs.CallLaws.{writing, written-reading, write-back, write-unread}
 use borrow.Author.Needs.{needs}
 use Rattle.transfer.proofs.write_new.Statement.{statement}
 use Rattle.transfer.proofs.write_new.Tie as tie

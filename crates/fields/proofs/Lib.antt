@@ -1,0 +1,2 @@
+pub mod HyperperiodLaws
+pub mod LimitLaws

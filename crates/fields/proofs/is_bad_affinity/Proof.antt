@@ -1,0 +1,12 @@
+-- The test is the definition.
+use Rattle.fields.specs.Tests.{badAffinity}
+use borrow.Author.Needs.{needs}
+use Rattle.fields.proofs.is_bad_affinity.Statement.{statement}
+use Rattle.fields.proofs.is_bad_affinity.Tie as tie
+
+returns : tie.Need-returns
+unfolding badAffinity
+returns c = search needs
+
+pub is-bad-affinity-spec : {M : Type 1} → statement M
+is-bad-affinity-spec = tie.close (tie.spec (λ c. search needs) (λ c κs. search needs) returns)

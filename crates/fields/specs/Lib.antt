@@ -1,0 +1,5 @@
+pub mod Fields
+pub mod Most
+pub mod Hyperperiod
+pub mod Tests
+pub mod Limits

@@ -1,0 +1,17 @@
+-- The answer is the definition, case by case.
+use Rattle.refusal.specs.Tests.{byOutcome}
+use Rattle.storing.specs.Lent.{transferBy}
+use borrow.Author.Needs.{needs}
+use Rattle.storing.proofs.answer.Statement.{statement}
+use Rattle.storing.proofs.answer.Tie as tie
+
+returns : tie.Need-returns
+unfolding transferBy byOutcome
+returns c = rw (c .before .outcome .given .1)
+
+returns-2 : tie.Need-returns-2
+unfolding transferBy byOutcome
+returns-2 c = rw (c .enum-told .given .1)
+
+pub answer-spec : {M : Type 1} → statement M
+answer-spec = tie.close (tie.spec (λ c. search needs) (λ c. search needs) returns returns-2)
