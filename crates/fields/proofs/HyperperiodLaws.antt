@@ -4,6 +4,7 @@ use native.Mathlib.Omega.{arith}
 use native.Mathlib.Nat.{le-trans}
 use Rattle.numbers.specs.Multiples.{IsLcm}
 use Rattle.numbers.proofs.MultipleLaws.{lcms-is, lcms-mono}
+use Rattle.fields.specs.Most.{mostMultiple}
 use Rattle.fields.specs.Fields.{periodAt}
 use Rattle.fields.specs.Hyperperiod.{multipleTo, hyperperiodOf}
 use Rattle.fields.specs.Limits.{Within}
@@ -16,6 +17,6 @@ module _ {f : Fields} (w : Within f) where
   hyperperiod-is = lcms-is (periodAt f) (f .n) (λ k h. w .periods k h .0)
 
   -- no multiple on the way exceeds the bound
-  pub multiple-bound : (k : ℕ) → k < f .n → multipleTo f (k + 1) ≤ 1000000
+  pub multiple-bound : (k : ℕ) → k < f .n → multipleTo f (k + 1) ≤ mostMultiple
   unfolding hyperperiodOf multipleTo
   multiple-bound k h = le-trans (lcms-mono (periodAt f) (k + 1) (f .n) (omega arith) (λ j g. w .periods j g .0)) (w .multiple)

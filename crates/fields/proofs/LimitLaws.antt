@@ -17,6 +17,7 @@ use Rattle.refusal.specs.Conditions.{Fails, None, Reports, Tested}
 use Rattle.refusal.specs.declared.Cause.the-variants.{TaskCount, CoreCount, Period, Budget, Hyperperiod, Charge, Cost, Affinity}
 use Rattle.refusal.proofs.TestLaws.{inOrder-append}
 use Rattle.refusal.proofs.ConditionLaws.{test-only, test-at, _and_, no-more, then-reports, none-append, _also_}
+use Rattle.fields.specs.Most.{mostTasks, mostCores, mostCharge, longestPeriod, mostMultiple}
 use Rattle.fields.specs.Fields.{periodAt, budgetAt, costAt, affinityAt}
 use Rattle.fields.specs.Hyperperiod.{multipleTo, hyperperiodOf}
 use Rattle.fields.specs.Tests.{badPeriod, badBudget, badCost, badAffinity, exceeds, sizeTests, limitTests, fieldsOutcome}
@@ -37,23 +38,23 @@ module _ (f : Fields) where
   exceeds-exactly : (k : ℕ) → (exceeds f k ≡ true) ↔ Exceeds f k
   unfolding exceeds multipleTo
   exceeds-exactly k = (
-    λ e. let h = ltb-true 1000000 (multipleTo f (k + 1)) e in (multipleTo f (k + 1), lcms-exactly (periodAt f) (k + 1) (multipleTo f (k + 1)) (omega arith) .0 refl, h),
-    λ x. lt-ltb 1000000 (multipleTo f (k + 1)) (rw (← lcms-exactly (periodAt f) (k + 1) (x .0) (omega (arith, x .2)) .1 (x .1)) (x .2)),
+    λ e. let h = ltb-true mostMultiple (multipleTo f (k + 1)) e in (multipleTo f (k + 1), lcms-exactly (periodAt f) (k + 1) (multipleTo f (k + 1)) (omega arith) .0 refl, h),
+    λ x. lt-ltb mostMultiple (multipleTo f (k + 1)) (rw (← lcms-exactly (periodAt f) (k + 1) (x .0) (omega (arith, x .2)) .1 (x .1)) (x .2)),
   )
 
   -- Each test reports its condition.
   pub sizes-reported : Reports (sizes f) (inOrder (sizeTests f))
   unfolding inOrder
   sizes-reported =
-      test-only TaskCount refl (outside-exactly 1 16 (f .n))
-      and test-only CoreCount refl (outside-exactly 1 4 (f .m))
+      test-only TaskCount refl (outside-exactly 1 mostTasks (f .n))
+      and test-only CoreCount refl (outside-exactly 1 mostCores (f .m))
       and no-more
 
   pub limits-reported : Reports (limits f) (inOrder (limitTests f))
   unfolding inOrder badPeriod badBudget badCost badAffinity
   limits-reported =
-      test-only Charge refl (less-exactly 9 (f .charge))
-      and test-at Period (λ k. (refl, refl)) (λ k. outside-exactly 1 10000 (periodAt f k))
+      test-only Charge refl (less-exactly mostCharge (f .charge))
+      and test-at Period (λ k. (refl, refl)) (λ k. outside-exactly 1 longestPeriod (periodAt f k))
       and test-at Budget (λ k. (refl, refl)) (λ k. outside-exactly 1 (periodAt f k) (budgetAt f k))
       and test-at Cost (λ k. (refl, refl)) (λ k. less-exactly (periodAt f k) (costAt f k))
       and test-only (Affinity 0) refl (unequal-exactly (f .given) (f .n))
@@ -64,8 +65,8 @@ module _ (f : Fields) where
   -- No condition holds exactly where the limits are kept.
   pub sizes-kept : None (sizes f) ↔ Sized f
   sizes-kept = (
-    λ n. record { tasks = not-outside 1 16 (f .n) .0 (n .0); cores = not-outside 1 4 (f .m) .0 (n .1 .0) },
-    λ z. not-outside 1 16 (f .n) .1 (z .tasks) also not-outside 1 4 (f .m) .1 (z .cores) also tt,
+    λ n. record { tasks = not-outside 1 mostTasks (f .n) .0 (n .0); cores = not-outside 1 mostCores (f .m) .0 (n .1 .0) },
+    λ z. not-outside 1 mostTasks (f .n) .1 (z .tasks) also not-outside 1 mostCores (f .m) .1 (z .cores) also tt,
   )
 
   pub sizes-tested : Tested (Sized f) (sizes f) (inOrder (sizeTests f))
@@ -75,16 +76,16 @@ module _ (f : Fields) where
   unfolding hyperperiodOf exceeds
   limits-kept z n = record {
     sizes = z;
-    charge = not-less 9 (f .charge) (n .0);
-    periods = λ k h. not-outside 1 10000 (periodAt f k) .0 (n .1 .0 k h);
+    charge = not-less mostCharge (f .charge) (n .0);
+    periods = λ k h. not-outside 1 longestPeriod (periodAt f k) .0 (n .1 .0 k h);
     budgets = λ k h. not-outside 1 (periodAt f k) (budgetAt f k) .0 (n .1 .1 .0 k h);
     costs = λ k h. not-less (periodAt f k) (costAt f k) (n .1 .1 .1 .0 k h);
     counted = not-unequal _ _ (n .1 .1 .1 .1 .0);
     affinities = λ k h. fit-byte (f .m) (affinityAt f k) (z .cores .1) (not-unfit (affinityAt f k) (f .m) (n .1 .1 .1 .1 .1 .0 k h));
     multiple =
         let q : f .n ≡ f .n - 1 + 1 = omega (arith, z .tasks .0) in
-        let m : multipleTo f (f .n - 1 + 1) ≤ 1000000 =
-        not-less 1000000 _ (λ h. n .1 .1 .1 .1 .1 .1 .0 (f .n - 1) (omega arith) (exceeds-exactly (f .n - 1) .0 (lt-ltb 1000000 _ h))) in
+        let m : multipleTo f (f .n - 1 + 1) ≤ mostMultiple =
+        not-less mostMultiple _ (λ h. n .1 .1 .1 .1 .1 .1 .0 (f .n - 1) (omega arith) (exceeds-exactly (f .n - 1) .0 (lt-ltb mostMultiple _ h))) in
         rw (← q) at m;
   }
 
@@ -92,12 +93,12 @@ module _ (f : Fields) where
   unfolding exceeds
   within-kept w =
       (λ h. omega (arith, w .charge))
-      also (λ k h. not-outside 1 10000 (periodAt f k) .1 (w .periods k h))
+      also (λ k h. not-outside 1 longestPeriod (periodAt f k) .1 (w .periods k h))
       also (λ k h. not-outside 1 (periodAt f k) (budgetAt f k) .1 (w .budgets k h))
       also (λ k h g. omega (arith, w .costs k h))
       also (λ n. n (w .counted))
       also (λ k h. fit-fails (affinityAt f k) (f .m) (fit-not (f .m) (affinityAt f k) (w .affinities k h)))
-      also (λ k h x. omega (arith, multiple-bound w k h, ltb-true 1000000 (multipleTo f (k + 1)) (exceeds-exactly k .1 x)))
+      also (λ k h x. omega (arith, multiple-bound w k h, ltb-true mostMultiple (multipleTo f (k + 1)) (exceeds-exactly k .1 x)))
       also tt
 
   -- The tests of fields report their conditions, and none holds exactly if the fields are within the limits.

@@ -12,6 +12,7 @@ use Rattle.numbers.proofs.BoolLaws.{cond-le}
 use Rattle.refusal.specs.Tests.{refuseIf}
 use Rattle.refusal.specs.declared.Cause.the-variants.{Overload}
 use Rattle.refusal.specs.declared.Outcome.{Outcome}
+use Rattle.fields.specs.Most.{mostMultiple}
 use Rattle.taskset.specs.declared.TaskSet.{TaskSet}
 use Rattle.taskset.specs.Demands.{demandOf, loadOn}
 use Rattle.taskset.specs.Promise.{Checked}
@@ -23,7 +24,7 @@ pub record Adding (t : TaskSet) (placement : List ℕ) (core sum k : ℕ) : Type
   pub top : k ≤ t .fields .n
   pub checked : Checked t
   pub is : sum ≡ sumTo (λ j. cond (eqb (entry placement j) core) (demandOf (t .fields) j) 0) k
-  pub bound : sum ≤ k * 1000000
+  pub bound : sum ≤ k * mostMultiple
 
 pub add-start : (t : TaskSet) (placement : List ℕ) (core : ℕ) → Checked t → Adding t placement core 0 0
 unfolding sumTo
@@ -31,8 +32,8 @@ add-start t placement core d = record { top = omega arith; checked = d; is = ref
 
 module _ {t : TaskSet} {placement : List ℕ} {core sum k : ℕ} (s : Adding t placement core sum k) where
   module _ {byte part : ℕ} (h : k < t .fields .n) (e : byte ≡ entry placement k) (q : part ≡ cond (eqb byte core) (entry (t .demands) k) 0) where
-    part-most : part ≤ 1000000
-    part-most = rw q (cond-le (eqb byte core) (entry (t .demands) k) 1000000 (demands-small (s .checked) k h))
+    part-most : part ≤ mostMultiple
+    part-most = rw q (cond-le (eqb byte core) (entry (t .demands) k) mostMultiple (demands-small (s .checked) k h))
 
     part-is : part ≡ cond (eqb (entry placement k) core) (demandOf (t .fields) k) 0
     part-is = q ∙ rw (e, demand-held (s .checked) k h)

@@ -5,6 +5,7 @@ use native.Mathlib.Omega.{arith}
 use native.Mathlib.Nat.{mul-div-assoc, mul-le-mul-right, mul-div-le, div-mul-cancel, dvd-mul-left-of-dvd, le-trans, le-of-dvd, le-div-iff-mul-le, one-mul, mul-pos}
 use Rattle.numbers.specs.Rows.{entry}
 use Rattle.numbers.proofs.RowLaws.{getD-row, row-beyond}
+use Rattle.fields.specs.Most.{longestPeriod, mostMultiple}
 use Rattle.fields.specs.Fields.{periodAt, costAt}
 use Rattle.fields.specs.Hyperperiod.{hyperperiodOf}
 use Rattle.taskset.specs.Demands.{demandOf}
@@ -27,7 +28,7 @@ module _ {f : Fields} (w : Within f) where
     cost-least : 1 ≤ costAt f k
     cost-least = omega (arith, w .budgets k below .0)
 
-    pub cost-small : {x : ℕ} → x ≡ costAt f k → x ≤ 10000
+    pub cost-small : {x : ℕ} → x ≡ costAt f k → x ≤ longestPeriod
     cost-small c = rw c (le-trans (w .costs k below) (w .periods k below .1))
 
     -- so it can be made first: j jobs, of the cost x each
@@ -45,7 +46,7 @@ module _ {f : Fields} (w : Within f) where
               (mul-div-le (hyperperiodOf f) (periodAt f k)),
         )
 
-    pub demand-fits : {x h j : ℕ} → x ≡ costAt f k → h ≡ hyperperiodOf f → j ≡ h / periodAt f k → x * j ≤ 1000000
+    pub demand-fits : {x h j : ℕ} → x ≡ costAt f k → h ≡ hyperperiodOf f → j ≡ h / periodAt f k → x * j ≤ mostMultiple
     demand-fits c e q = rw (demand-by c e q) (le-trans (demand-range .1) (w .multiple))
 
   -- the task set is exact
@@ -59,7 +60,7 @@ module _ {f : Fields} (w : Within f) where
   }
 
 -- a checked task set has demands of at most 1,000,000
-pub demands-small : {t : TaskSet} → Checked t → (k : ℕ) → k < t .fields .n → entry (t .demands) k ≤ 1000000
+pub demands-small : {t : TaskSet} → Checked t → (k : ℕ) → k < t .fields .n → entry (t .demands) k ≤ mostMultiple
 unfolding taskSetOf
 demands-small c k h =
     rw (ap (λ (x : TaskSet). x .demands) (c .is))

@@ -14,6 +14,7 @@ use Rattle.numbers.proofs.RowLaws.{getD-row, by-entries}
 use Rattle.wire.proofs.WriteBackLaws.{front-long}
 use Rattle.refusal.specs.declared.Outcome.the-variants.{Accepted}
 use Rattle.refusal.proofs.ConditionLaws.{decides, accepts}
+use Rattle.fields.specs.Most.{mostTasks, mostMultiple}
 use Rattle.fields.specs.Fields.{periodAt, budgetAt, affinityAt, cut, Alike}
 use Rattle.fields.specs.Hyperperiod.{multipleTo}
 use Rattle.fields.specs.Tests.{badPeriod, badBudget, badCost, badAffinity, exceeds, fieldsOutcome}
@@ -56,7 +57,7 @@ module _ (f g : Fields) (a : Alike f g) where
 
   same-multiple : first (exceeds (counted f)) (f .n) ≡ first (exceeds (counted g)) (g .n)
   unfolding exceeds multipleTo
-  same-multiple = same-first _ _ (λ k h. ap (ltb 1000000) (lcms-cong (periodAt f) (periodAt g) (k + 1) (λ j b. a .periods j (omega arith))))
+  same-multiple = same-first _ _ (λ k h. ap (ltb mostMultiple) (lcms-cong (periodAt f) (periodAt g) (k + 1) (λ j b. a .periods j (omega arith))))
 
   pub outcome-alike : fieldsOutcome (counted f) ≡ fieldsOutcome (counted g)
   unfolding fieldsOutcome
@@ -73,7 +74,7 @@ module _ (f g : Fields) (a : Alike f g) where
       rw (P, B, A, e, a .cores, a .charge)
 
 -- Fields are equal up to n to themselves cut at n, so these are within the limits too.
-cut-alike : (f : Fields) → f .n ≤ 16 → Alike f (cut f)
+cut-alike : (f : Fields) → f .n ≤ mostTasks → Alike f (cut f)
 unfolding cut
 cut-alike f few = record {
   tasks = refl;
