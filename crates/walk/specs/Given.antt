@@ -1,4 +1,4 @@
--- What the search is given, and what it returns.
+-- What the search and the walk are given, and what they return.
 use Prim.Native.Nat.{ℕ, _≤_, _<_}
 use mathlib.Core.Path.{_≡_}
 use mathlib.Core.Bool.{Bool}
@@ -8,7 +8,7 @@ use Rattle.numbers.specs.Rows.{padded}
 use Rattle.allocation.specs.Placement.{problemOf, total, excess}
 use Rattle.allocation.specs.Walk.{WalkAnswer}
 use Rattle.branch.specs.Entry.{twinRows}
-use Rattle.search.specs.declared.Found.{Found}
+use Rattle.walk.specs.declared.Found.{Found}
 
 -- The ranges of the arguments: n demands at the front of a row of sixteen, m cores, and the hyperperiod h.
 pub record Ranges (demands : List ℕ) (n m h : ℕ) : Type 0 where
@@ -26,6 +26,6 @@ pub record Prepared (demands affinity : List ℕ) (twins : List Bool) (n m h sum
   pub total-is : sum ≡ total (problemOf h m (take n demands) (take n affinity))
   pub excess-is : over ≡ excess (problemOf h m (take n demands) (take n affinity))
 
--- the walk's answer as the search returns it
+-- the walk's answer as it is returned
 unfoldable pub foundOf : WalkAnswer → Found
 foundOf a = record { placement = padded (a .placement); rejected = a .rejected; steps = a .steps; spent = a .spent }

@@ -23,10 +23,10 @@ use Rattle.allocation.specs.Rule.{tellsApart, twins, areTwins, isEmpty, someEmp
 use Rattle.allocation.specs.Walk.{entered}
 use Rattle.allocation.proofs.Order.{choice-core, choice-none}
 use Rattle.branch.specs.Entry.{twinRows, someZeroTwin}
-use Rattle.search.specs.Search.{Ranges}
-use Rattle.search.proofs.State.{Job, problem, Fixed, Locals, held, Walking, Improving, Looked, path-room, load-next}
+use Rattle.walk.specs.Given.{Ranges}
+use Rattle.walk.proofs.State.{Job, problem, Fixed, Locals, held, Walking, Improving, Looked, path-room, load-next}
 
--- what the search leaves unchanged, in the order of the code
+-- what the walk leaves unchanged, in the order of the code
 abbrev pub job : List ℕ → List ℕ → ℕ → ℕ → ℕ → ℕ → Job
 job demands affinity n m h limit = record { row = demands; affinity = affinity; tasks = n; cores = m; capacity = h; limit = limit }
 

@@ -23,8 +23,8 @@ use Rattle.allocation.proofs.Progress.{Progress, progress-start, progress-skip,
 use Rattle.numbers.specs.Rows.{padded}
 use Rattle.branch.specs.Entry.{onCore}
 use Rattle.branch.proofs.OneCore.{row-changed}
-use Rattle.search.specs.Search.{foundOf}
-use Rattle.search.specs.declared.Found.{Found}
+use Rattle.walk.specs.Given.{foundOf}
+use Rattle.walk.specs.declared.Found.{Found}
 use Rattle.numbers.proofs.ZeroLaws.{take-zeros, drop-zeros, zero-at}
 
 -- what the loops do not change: the demands and the core bytes in rows of sixteen, how many of them are tasks, the cores and the step limit
