@@ -18,9 +18,9 @@ pub fn search(
     requires { ⌜ Ranges demands n m h ⌝ }
     ensures { λ r. ⌜ r ≡ foundOf (answer (problemOf h m (take n demands) (take n affinity)) limit) ⌝ }
 {
-    let total = branch::total_demand(demands, n);
-    let excess = branch::excess_of(total, m, h);
-    let twins = branch::twin_rows(affinity, n);
+    let total = outset::total_demand(demands, n);
+    let excess = outset::excess_of(total, m, h);
+    let twins = outset::twin_rows(affinity, n);
     walk::walk(
         demands,
         affinity,

@@ -22,7 +22,8 @@ use Rattle.allocation.specs.Placement.{problemOf, total, excess}
 use Rattle.allocation.specs.Rule.{tellsApart, twins, areTwins, isEmpty, someEmptyTwin, tried}
 use Rattle.allocation.specs.Walk.{entered}
 use Rattle.allocation.proofs.Order.{choice-core, choice-none}
-use Rattle.branch.specs.Entry.{twinRows, someZeroTwin}
+use Rattle.outset.specs.Twins.{twinRows}
+use Rattle.branch.specs.Entry.{someZeroTwin}
 use Rattle.walk.specs.Given.{Ranges}
 use Rattle.walk.proofs.State.{Job, problem, Fixed, Locals, held, Walking, Improving, Looked, path-room, load-next}
 

@@ -7,7 +7,7 @@ use lib.ListN.{getD, take}
 use Rattle.numbers.specs.Rows.{padded}
 use Rattle.allocation.specs.Placement.{problemOf, total, excess}
 use Rattle.allocation.specs.Walk.{WalkAnswer}
-use Rattle.branch.specs.Entry.{twinRows}
+use Rattle.outset.specs.Twins.{twinRows}
 use Rattle.walk.specs.declared.Found.{Found}
 
 -- The ranges of the arguments: n demands at the front of a row of sixteen, m cores, and the hyperperiod h.

@@ -2,8 +2,8 @@
 use borrow.Author.Needs.{needs}
 use lib.Dec.{lit<}
 use native.Mathlib.Nat.{lt-of-le-of-lt, mul-le-mul}
-use Rattle.branch.proofs.excess_of.Statement.{statement}
-use Rattle.branch.proofs.excess_of.Tie as tie
+use Rattle.outset.proofs.excess_of.Statement.{statement}
+use Rattle.outset.proofs.excess_of.Tie as tie
 
 pub excess-of-spec : {M : Type 1} → statement M
 excess-of-spec =

@@ -5,9 +5,9 @@ use native.Mathlib.Omega.{arith}
 use Rattle.numbers.proofs.RowLaws.{Filled, fill-start, fill-next, fill-done}
 use Rattle.allocation.specs.Rule.{twins}
 use borrow.Author.Needs.{needs}
-use Rattle.branch.specs.Entry.{twinRows}
-use Rattle.branch.proofs.twin_rows.Statement.{statement}
-use Rattle.branch.proofs.twin_rows.Tie as tie
+use Rattle.outset.specs.Twins.{twinRows}
+use Rattle.outset.proofs.twin_rows.Statement.{statement}
+use Rattle.outset.proofs.twin_rows.Tie as tie
 
 abbrev Inv-loop : tie.InvT-loop
 Inv-loop affinity n rows₀ i₀ rows i = Filled false 16 (λ j. twins affinity n (j / 4 + 1) (j % 4 + 1)) rows i

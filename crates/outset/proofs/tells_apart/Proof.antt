@@ -1,7 +1,7 @@
 use mathlib.Core.Bool.{xor}
 use borrow.Author.Needs.{needs}
-use Rattle.branch.proofs.tells_apart.Statement.{statement}
-use Rattle.branch.proofs.tells_apart.Tie as tie
+use Rattle.outset.proofs.tells_apart.Statement.{statement}
+use Rattle.outset.proofs.tells_apart.Tie as tie
 
 returns : tie.Need-returns
 unfolding xor

@@ -8,8 +8,8 @@ use borrow.Author.Needs.{needs}
 use borrow.Author.Tests.{eq-eqb, ne-eqb}
 use Rattle.numbers.proofs.FirstLaws.{Seeking, seek-start, looked-on, looked-found, seek-none}
 use Rattle.allocation.specs.Rule.{tellsApart, twins}
-use Rattle.branch.proofs.are_twins.Statement.{statement}
-use Rattle.branch.proofs.are_twins.Tie as tie
+use Rattle.outset.proofs.are_twins.Statement.{statement}
+use Rattle.outset.proofs.are_twins.Tie as tie
 
 abbrev Inv-loop : tie.InvT-loop
 Inv-loop n c d affinity k₀ k = Seeking (tellsApart affinity (c + 1) (d + 1)) n k

@@ -6,8 +6,8 @@ use native.Mathlib.Omega.{arith}
 use lib.ListN.{take}
 use Rattle.numbers.specs.Loads.{sum}
 use Rattle.numbers.proofs.LoadLaws.{sum-take-zero, sum-take-suc, sum-take-le}
-use Rattle.branch.proofs.total_demand.Statement.{statement}
-use Rattle.branch.proofs.total_demand.Tie as tie
+use Rattle.outset.proofs.total_demand.Statement.{statement}
+use Rattle.outset.proofs.total_demand.Tie as tie
 
 abbrev Inv-loop : tie.InvT-loop
 Inv-loop n demands total₀ i₀ total i = (i ≤ n) × (total ≡ sum (take i demands))
