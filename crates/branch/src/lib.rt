@@ -17,10 +17,10 @@ pub fn pick(c: u32, i: u32, x: u32, y: u32) -> u32
 }
 
 // The same for bytes.
-pub fn pick_byte(c: u8, i: u8, x: u8, y: u8) -> u8
-    ensures { λ r. ⌜ r ≡ cond (eqb c i) x y ⌝ }
+fn pick_byte(c: u8, i: u8, a: u8, b: u8) -> u8
+    ensures { λ r. ⌜ r ≡ cond (eqb c i) a b ⌝ }
 {
-    if c == i { x } else { y }
+    if c == i { a } else { b }
 }
 
 // The placement with the choice of the task at `at` changed. Here and for the loads each entry is written, by its own
