@@ -1,15 +1,9 @@
 -- What a move of the walk reads of a row of loads, and of the rows of twins, and what it makes of it.
-use Prim.Native.Nat.{ℕ, zero, suc, _+_, _*_, _/_, _%_}
+use Prim.Native.Nat.{ℕ, zero, suc, _+_, _*_}
 use mathlib.Core.Bool.{Bool, false, _&&_, _||_}
 use mathlib.Core.List.{List}
 use lib.Dec.{eqb}
 use lib.ListN.{getD, set}
-use Rattle.numbers.specs.Rows.{row}
-use Rattle.allocation.specs.Rule.{twins}
-
--- which cores are twins, as rows of four: entry 4 * c + d is whether cores c + 1 and d + 1 are
-unfoldable pub twinRows : List ℕ → ℕ → List Bool
-twinRows affinity n = row false 16 (λ i. twins affinity n (i / 4 + 1) (i % 4 + 1))
 
 -- whether one of the first k loads is 0, and by these rows its core a twin of core c + 1
 unfoldable pub someZeroTwin : List ℕ → List Bool → ℕ → ℕ → Bool

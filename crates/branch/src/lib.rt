@@ -1,16 +1,13 @@
-// What one move of the walk does: an array by value with one entry changed, the tests of a choice, and what the walk
-// starts from.
+// What one move of the walk does: an array by value with one entry changed, and the tests of a choice.
 ghost use mathlib.Core.Path.{_≡_};
-ghost use mathlib.Core.Bool.{cond, _&&_, xor};
+ghost use mathlib.Core.Bool.{cond, _&&_};
 ghost use mathlib.Core.List.{_∷_};
-ghost use Prim.Native.Nat.{ℕ, _+_, _*_, _-_, _<_, _≤_};
+ghost use Prim.Native.Nat.{ℕ, _+_, _-_, _<_, _≤_};
 ghost use lib.Dec.{eqb, leb};
-ghost use lib.ListN.{getD, set, take};
-ghost use Rattle.numbers.specs.Loads.{sum};
+ghost use lib.ListN.{getD, set};
 ghost use Rattle.affinity.specs.Permitted.{permitted};
-ghost use Rattle.allocation.specs.Rule.{twins};
 ghost use Rattle.allocation.specs.Walk.{triedBy};
-ghost use Rattle.branch.specs.Entry.{onCore, twinRows, someZeroTwin};
+ghost use Rattle.branch.specs.Entry.{onCore, someZeroTwin};
 
 // x where c is i, and y otherwise.
 pub fn pick(c: u32, i: u32, x: u32, y: u32) -> u32
@@ -20,10 +17,10 @@ pub fn pick(c: u32, i: u32, x: u32, y: u32) -> u32
 }
 
 // The same for bytes.
-pub fn pick_byte(c: u8, i: u8, x: u8, y: u8) -> u8
-    ensures { λ r. ⌜ r ≡ cond (eqb c i) x y ⌝ }
+fn pick_byte(c: u8, i: u8, a: u8, b: u8) -> u8
+    ensures { λ r. ⌜ r ≡ cond (eqb c i) a b ⌝ }
 {
-    if c == i { x } else { y }
+    if c == i { a } else { b }
 }
 
 // The placement with the choice of the task at `at` changed. Here and for the loads each entry is written, by its own
@@ -99,43 +96,6 @@ pub fn has_room(byte: u8, below: u32, load: u32, d: u32, h: u32) -> bool
     affinity::permits(byte, below) & (load <= h - d)
 }
 
-// Whether a task with this core byte permits one of two cores alone, each the core after so many others.
-fn tells_apart(byte: u8, c: u32, d: u32) -> bool
-    requires { ⌜ (c < 4) × (d < 4) ⌝ }
-    ensures { λ r. ⌜ r ≡ xor (permitted byte (c + 1)) (permitted byte (d + 1)) ⌝ }
-{
-    affinity::permits(byte, c) != affinity::permits(byte, d)
-}
-
-// Whether two cores are twins: none of n tasks tells them apart.
-fn are_twins(affinity: [u8; 16], n: usize, c: u32, d: u32) -> bool
-    requires { ⌜ (n ≤ 16) × (c < 4) × (d < 4) ⌝ }
-    ensures { λ r. ⌜ r ≡ twins affinity n (c + 1) (d + 1) ⌝ }
-{
-    let mut k = 0;
-    while k < n {
-        if tells_apart(affinity[k], c, d) {
-            return false;
-        }
-        k += 1;
-    }
-    true
-}
-
-// Which cores are twins: entry 4 * c + d is whether those after c and d others are. Made once, before the walk.
-pub fn twin_rows(affinity: [u8; 16], n: usize) -> [bool; 16]
-    requires { ⌜ n ≤ 16 ⌝ }
-    ensures { λ r. ⌜ r ≡ twinRows affinity n ⌝ }
-{
-    let mut rows = [false; 16];
-    let mut i: usize = 0;
-    while i < 16 {
-        rows[i] = are_twins(affinity, n, (i / 4) as u32, (i % 4) as u32);
-        i += 1;
-    }
-    rows
-}
-
 // Whether a core below the core after k others is empty, and its twin.
 pub fn some_empty_twin(loads: &[u32; 4], rows: &[bool; 16], k: u32) -> bool
     requires { ⌜ k < 4 ⌝ }
@@ -149,30 +109,4 @@ pub fn some_empty_twin(loads: &[u32; 4], rows: &[bool; 16], k: u32) -> bool
         d += 1;
     }
     false
-}
-
-// The sum of the first n demands.
-pub fn total_demand(demands: [u32; 16], n: usize) -> u32
-    requires { ⌜ (n ≤ 16) × ((k : ℕ) → getD demands k 0 ≤ 1000000) ⌝ }
-    ensures { λ r. ⌜ r ≡ sum (take n demands) ⌝ }
-{
-    let mut total: u32 = 0;
-    let mut i: usize = 0;
-    while i < n {
-        total += demands[i];
-        i += 1;
-    }
-    total
-}
-
-// What m cores cannot hold of a total demand.
-pub fn excess_of(total: u32, m: usize, h: u32) -> u32
-    requires { ⌜ (m ≤ 4) × (h ≤ 1000000) ⌝ }
-    ensures { λ r. ⌜ r ≡ total - m * h ⌝ }
-{
-    let room = (m as u32) * h;
-    if total < room {
-        return 0;
-    }
-    total - room
 }

@@ -1,16 +1,5 @@
 // One program over the library for tests from outside: it runs the cases on standard input and prints their lines.
-// A case is its code in one byte, then its blocks. Each code has a file, which names its blocks.
-mod blocks;
-mod ceilings;
-mod cores;
-mod lines;
-mod newtables;
-mod outputs;
-mod plans;
-mod quicks;
-mod records;
-mod tables;
-
+// A case is its code in one byte, then its blocks. Each code has a file in `caselines`, which names its blocks.
 use fields::Fields;
 use refusal::Outcome;
 use runner::Core;
@@ -19,7 +8,7 @@ use storing::Transfer;
 // Reads a block of exactly the buffer's length; false where there is none.
 fn read_exact(buffer: &mut [u8]) -> bool {
     let length = buffer.len();
-    let block = blocks::read_block(buffer);
+    let block = caseblocks::read_block(buffer);
     block.whole & (block.length == length)
 }
 
@@ -49,7 +38,7 @@ struct Sixteen {
 fn read_sixteen() -> Sixteen {
     let mut bytes = [0u8; 64];
     let whole = read_exact(&mut bytes);
-    let numbers = blocks::numbers_of(&bytes);
+    let numbers = caseblocks::numbers_of(&bytes);
     Sixteen {
         whole: whole,
         numbers: numbers,
@@ -59,13 +48,13 @@ fn read_sixteen() -> Sixteen {
 // Prints a table's line; false where the output fails.
 fn run_table(table: &[u8]) -> bool {
     let reading = oldform::read_alone(table);
-    console::show(tables::table_line(reading)).whole
+    console::show(caselines::tables::table_line(reading)).whole
 }
 
 // Prints the line of a table in the new form; false where the output fails.
 fn run_setup(table: &[u8]) -> bool {
     let reading = newform::read_new(table);
-    console::show(newtables::new_line(reading)).whole
+    console::show(caselines::newtables::new_line(reading)).whole
 }
 
 // Reads a limit and prints the plan's line; false where the case is not whole or the output fails.
@@ -75,19 +64,19 @@ fn run_plan(table: &[u8], charge: u32, cores: &[u8]) -> bool {
         return false;
     }
     let plan = planner::plan(table, charge, cores, limit.value);
-    console::show(plans::plan_line(plan)).whole
+    console::show(caselines::plans::plan_line(plan)).whole
 }
 
 // Prints the quick plan's line; false where the output fails.
 fn run_quick(table: &[u8], charge: u32, cores: &[u8]) -> bool {
     let plan = quick::quick_plan(table, charge, cores);
-    console::show(quicks::quick_line(plan)).whole
+    console::show(caselines::quicks::quick_line(plan)).whole
 }
 
 // Prints the step ceiling's line; false where the output fails.
 fn run_ceiling(table: &[u8], charge: u32, cores: &[u8]) -> bool {
     let answer = ceiling::step_ceiling(table, charge, cores);
-    console::show(ceilings::ceiling_line(answer)).whole
+    console::show(caselines::ceilings::ceiling_line(answer)).whole
 }
 
 // Reads the requests of each tick, and if the core was accepted makes the tick and prints its line; false where the case is not whole
@@ -103,7 +92,7 @@ fn run_ticks(core: Core, accepted: bool, count: u32) -> bool {
         if accepted {
             let numbers = requests.numbers;
             let ticked = present.tick(numbers);
-            if !console::show(cores::tick_line(ticked)).whole {
+            if !console::show(caselines::cores::tick_line(ticked)).whole {
                 return false;
             }
             let next = ticked.core;
@@ -132,7 +121,7 @@ fn run_started(table: &[u8], charge: u32, cores: &[u8], placement: &[u8]) -> boo
         return false;
     }
     let started = start::fresh(table, charge, cores, placement, number[0]);
-    if !console::show(cores::core_line(started)).whole {
+    if !console::show(caselines::cores::core_line(started)).whole {
         return false;
     }
     let outcome = started.outcome;
@@ -142,7 +131,7 @@ fn run_started(table: &[u8], charge: u32, cores: &[u8], placement: &[u8]) -> boo
 // Reads a placement and runs the core; false where the case is not whole or the output fails.
 fn run_core(table: &[u8], charge: u32, cores: &[u8]) -> bool {
     let mut placement = [0u8; 1024];
-    let block = blocks::read_block(&mut placement);
+    let block = caseblocks::read_block(&mut placement);
     if !block.whole {
         return false;
     }
@@ -164,23 +153,23 @@ fn run_record() -> bool {
     if !requests.whole {
         return false;
     }
-    let slots = records::slots_in(&record);
+    let slots = caseblocks::slots_in(&record);
     let core = Core {
         slots: slots,
         charge: charge.value,
     };
     let numbers = requests.numbers;
-    console::show(records::record_line(core.tick(numbers))).whole
+    console::show(caselines::records::record_line(core.tick(numbers))).whole
 }
 
 // Prints every byte of an output and ends the line; false where the output fails.
 fn show_bytes(out: &[u8]) -> bool {
     let mut at = 0;
     while at < out.len() {
-        if !console::show(outputs::piece(&out[at..])).whole {
+        if !console::show(caselines::outputs::piece(&out[at..])).whole {
             return false;
         }
-        at += outputs::piece_length(out.len() - at);
+        at += caselines::outputs::piece_length(out.len() - at);
     }
     let nothing = text::empty();
     console::show(text::append_bytes(nothing, b"\n")).whole
@@ -188,7 +177,7 @@ fn show_bytes(out: &[u8]) -> bool {
 
 // Prints the line of a call that stored a table; false where the output fails.
 fn show_stored(answer: Transfer, out: &[u8]) -> bool {
-    if !console::show(outputs::answer_start(answer)).whole {
+    if !console::show(caselines::outputs::answer_start(answer)).whole {
         return false;
     }
     show_bytes(out)
@@ -203,7 +192,7 @@ fn write_fields(f: Fields, out: &mut [u8]) -> bool {
 // Reads a lent output and writes fields to it; false where the case is not whole or the output fails.
 fn run_fields(f: Fields) -> bool {
     let mut out = [0u8; 1024];
-    let block = blocks::read_block(&mut out);
+    let block = caseblocks::read_block(&mut out);
     if !block.whole {
         return false;
     }
@@ -225,7 +214,7 @@ fn run_writer() -> bool {
     }
     let p = periods.numbers;
     let b = budgets.numbers;
-    run_fields(outputs::fields_in(n.value, m.value, charge.value, p, b, affinity))
+    run_fields(caseblocks::fields_in(n.value, m.value, charge.value, p, b, affinity))
 }
 
 // Moves a table to a lent output, to the new form by code 9 and back by any other, and prints the line; false where the output fails.
@@ -240,7 +229,7 @@ fn move_table(code: u8, table: &[u8], out: &mut [u8]) -> bool {
 // Reads a lent output and moves a table to it; false where the case is not whole or the output fails.
 fn run_move(code: u8, table: &[u8]) -> bool {
     let mut out = [0u8; 1024];
-    let block = blocks::read_block(&mut out);
+    let block = caseblocks::read_block(&mut out);
     if !block.whole {
         return false;
     }
@@ -263,7 +252,7 @@ fn run_permitted(code: u8, table: &[u8], charge: u32, cores: &[u8]) -> bool {
 // Reads core bytes and runs a case whose first blocks were this table and this charge; false where the case is not whole or fails.
 fn run_charged(code: u8, table: &[u8], charge: u32) -> bool {
     let mut cores = [0u8; 1024];
-    let block = blocks::read_block(&mut cores);
+    let block = caseblocks::read_block(&mut cores);
     if !block.whole {
         return false;
     }
@@ -293,7 +282,7 @@ fn run_on(code: u8, table: &[u8]) -> bool {
 // Reads a table and runs the case; false where it is not whole or the output fails.
 fn run_tabled(code: u8) -> bool {
     let mut table = [0u8; 1024];
-    let block = blocks::read_block(&mut table);
+    let block = caseblocks::read_block(&mut table);
     if !block.whole {
         return false;
     }

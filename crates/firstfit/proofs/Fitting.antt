@@ -23,8 +23,8 @@ use Rattle.allocation.specs.FirstFit.{lowestFit, fitFrom, firstFit}
 use Rattle.allocation.proofs.FirstFit.{next-le}
 use Rattle.branch.specs.Entry.{onCore}
 use Rattle.branch.proofs.OneCore.{row-changed}
-use Rattle.search.specs.Search.{Ranges, foundOf}
-use Rattle.search.specs.declared.Found.{Found}
+use Rattle.walk.specs.Given.{Ranges, foundOf}
+use Rattle.walk.specs.declared.Found.{Found}
 use Rattle.firstfit.specs.Fit.{holds, fitAnswer}
 
 module _ (row affinity : List ℕ) (n m h : ℕ) where

@@ -4,9 +4,9 @@ ghost use Prim.Native.Nat.{_≤_};
 ghost use lib.ListN.{take};
 ghost use Rattle.numbers.specs.First.{first};
 ghost use Rattle.allocation.specs.Placement.{problemOf};
-ghost use Rattle.search.specs.Search.{Ranges, foundOf};
+ghost use Rattle.walk.specs.Given.{Ranges, foundOf};
 ghost use Rattle.firstfit.specs.Fit.{holds, fitAnswer};
-use search::Found;
+use walk::Found;
 
 // The lowest of m cores that a task's core byte permits and that holds its demand d beside its load; 0 if none does.
 fn lowest_core(loads: [u32; 4], byte: u8, d: u32, m: usize, h: u32) -> usize

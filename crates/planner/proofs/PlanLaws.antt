@@ -24,8 +24,8 @@ use Rattle.planning.proofs.PreparedLaws.{put-back}
 use Rattle.allocation.specs.Placement.{Problem, problemOf}
 use Rattle.allocation.specs.Walk.{WalkAnswer, answer}
 use Rattle.allocation.specs.TableOrder.{inPlanningOrder, tableAnswer}
-use Rattle.search.specs.Search.{Ranges, foundOf}
-use Rattle.search.specs.declared.Found.{Found}
+use Rattle.walk.specs.Given.{Ranges, foundOf}
+use Rattle.walk.specs.declared.Found.{Found}
 use Rattle.planner.specs.Plan.{verdictOf, allocationOf, planFor, refusedPlan, planBy, planOf, verdictOutcome}
 use Rattle.planner.specs.declared.Allocation.{Allocation}
 use Rattle.planner.specs.declared.Verdict.{Verdict}

@@ -22,8 +22,8 @@ use Rattle.allocation.specs.TableOrder.{inPlanningOrder}
 use Rattle.allocation.specs.FirstFit.{firstFit, tableFit}
 use Rattle.allocation.proofs.FirstFit.{first-feasible}
 use Rattle.allocation.proofs.Reorder.{rejected-scatter}
-use Rattle.search.specs.Search.{foundOf}
-use Rattle.search.specs.declared.Found.{Found}
+use Rattle.walk.specs.Given.{foundOf}
+use Rattle.walk.specs.declared.Found.{Found}
 use Rattle.firstfit.specs.Fit.{fitAnswer}
 use Rattle.planner.proofs.PlanLaws.{found-is, found-back}
 use Rattle.quick.specs.Quick.{quickPlacement, quickFor, refusedQuick, quickBy, quickOf}

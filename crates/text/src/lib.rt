@@ -1,10 +1,11 @@
 // A text by value, built up piece by piece. What does not fit is dropped; a piece that fits is kept whole.
 ghost use mathlib.Core.Path.{_≡_};
 ghost use mathlib.Core.List.{[], _∷_};
-ghost use Prim.Native.Nat.{_+_, _%_};
+ghost use Prim.Native.Nat.{_+_, _*_, _%_};
 ghost use lib.ListN.{length};
 ghost use Rattle.text.specs.Shown.{shown, Appended};
 ghost use Rattle.text.specs.Decimal.{decimal, field};
+ghost use Rattle.text.specs.Joined.{fields};
 
 // The first `length` bytes are shown.
 pub struct Text {
@@ -73,4 +74,18 @@ pub fn append_field(t: Text, x: u64) -> Text
 {
     let spaced = append_byte(t, b' ');
     append_decimal(spaced, x)
+}
+
+// The text with some bytes after it as numbers, a space before each.
+pub fn append_numbers(t: Text, bytes: &[u8]) -> Text
+    ensures { λ r. ⌜ Appended t (fields (now (bytes .entry))) (21 * length (now (bytes .entry))) r ⌝ }
+{
+    let mut longer = t;
+    let mut k = 0;
+    while k < bytes.len() {
+        let next = append_field(longer, bytes[k] as u64);
+        longer = next;
+        k += 1;
+    }
+    longer
 }

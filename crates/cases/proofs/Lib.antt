@@ -1,4 +1,0 @@
-pub mod BlockLaws
-pub mod LineLaws
-pub mod OrderLaws
-pub mod PieceLaws
