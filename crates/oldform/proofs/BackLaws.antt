@@ -2,7 +2,7 @@
 use Prim.Native.Nat.{ℕ, _+_, _*_, _≤_, _<_}
 use mathlib.Core.Path.{_≡_, refl, sym, _∙_}
 use mathlib.Core.List.{List, [], _∷_, _++_, append-nil}
-use lib.ListN.{length, getD, take, drop, replicate, length-append, length-drop, length-replicate, getD-replicate}
+use lib.ListN.{length, getD, take, drop, replicate, length-append, length-drop, getD-replicate}
 use lib.Seq.{take-all, drop-cons, getD-take}
 use native.Mathlib.Omega.{arith}
 use Rattle.numbers.specs.Rows.{row, tab, entry}
@@ -17,6 +17,7 @@ use Rattle.fields.specs.declared.Fields.{Fields}
 use Rattle.fields.proofs.LimitLaws.{periods-there, budgets-there}
 use Rattle.oldform.specs.Form.{taskCount, coreCount, besideFields, aloneFields, everyAffinity, oldBytes, OldForm}
 use Rattle.oldform.specs.Limits.{ValidBeside}
+use Rattle.oldform.proofs.FormLaws.{every-counted}
 
 module _ (f : Fields) (w : Within f) where
   abbrev P : List ℕ
@@ -50,7 +51,7 @@ module _ (f : Fields) (w : Within f) where
     periods = row-cong 0 (f .n) _ _ periods-read i;
     budgets = row-cong 0 (f .n) _ _ budgets-read i;
     affinity = row-cong 0 (f .n) _ _ (λ k h. getD-replicate (f .n) k (everyCore (f .m)) 0 h ∙ sym (every k h)) i;
-    given = length-replicate (f .n) (everyCore (f .m)) i;
+    given = every-counted (oldBytes f) 0 i;
   }
 
   -- the length of what is written
@@ -99,5 +100,5 @@ cut-alone s few = λ i. record {
   periods = row-again (taskCount s) (wordAt s 2) few i;
   budgets = row-again (taskCount s) (wordAt s (2 + 4 * taskCount s)) few i;
   affinity = row-again (taskCount s) (entry (replicate (taskCount s) (everyCore (coreCount s)))) few i;
-  given = sym (length-replicate (taskCount s) (everyCore (coreCount s))) i;
+  given = sym (every-counted s 0) i;
 }

@@ -55,12 +55,17 @@ module _ (cause : Cause) (bytes : Fields → List ℕ) (size : ℕ → ℕ) (lon
   pub store-refused : {c : Cause} {r : Transfer} → o ≡ Refused c → r ≡ transferBy o (size (f .n))
       → (r ≡ transferAfter cause (g .outcome) (bytes f) (length out)) × (out ≡ exitAfter cause (g .outcome) (bytes f) out)
   unfolding transferAfter exitAfter transferBy exitBy byOutcome
-  store-refused {c} q e = (e ∙ rw (← same-outcome, q), rw (← same-outcome, q))
+  store-refused {c} q e =
+      let zero : transferBy o (size (f .n)) ≡ transferBy o (length (bytes f)) = rw q in
+      let kept : out ≡ exitBy out o (bytes f) = rw q in
+      (e ∙ zero ∙ ap (λ x. transferBy x (length (bytes f))) same-outcome, kept ∙ ap (λ x. exitBy out x (bytes f)) same-outcome)
 
   pub store-accepted : {r : Transfer} {after : List ℕ} → o ≡ Accepted → r ≡ transferBy o (size (f .n)) → after ≡ bytes f ++ drop (length (bytes f)) out
       → (r ≡ transferAfter cause (g .outcome) (bytes f) (length out)) × (after ≡ exitAfter cause (g .outcome) (bytes f) out)
   unfolding transferAfter exitAfter transferBy exitBy byOutcome
-  store-accepted q e w = (e ∙ rw (← same-outcome, q, long-accepted (accepted-before q)), w ∙ rw (← same-outcome, q))
+  store-accepted q e w =
+      let there : bytes f ++ drop (length (bytes f)) out ≡ exitBy out o (bytes f) = rw q in
+      (e ∙ ap (transferBy o) (sym (long-accepted (accepted-before q))) ∙ ap (λ x. transferBy x (length (bytes f))) same-outcome, w ∙ there ∙ ap (λ x. exitBy out x (bytes f)) same-outcome)
 
   pub store-same : {after : List ℕ} → o ≡ Accepted → after ≡ bytes f ++ drop (length (bytes f)) out → length after ≡ length out
   store-same q w =

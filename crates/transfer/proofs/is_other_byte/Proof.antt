@@ -6,7 +6,7 @@ use Rattle.transfer.proofs.is_other_byte.Tie as tie
 
 returns : tie.Need-returns
 unfolding otherByte
-returns c = rw (← c .every-core .ensures)
+returns c = rw (c .every-core .ensures)
 
 pub is-other-byte-spec : {M : Type 1} → statement M
 is-other-byte-spec = tie.close (tie.spec (λ c. search needs) (λ c κs. search needs) returns)
