@@ -13,7 +13,7 @@ use planner::Allocation;
 use runner::Ticked;
 
 // The plan with the step ceiling as the limit, or with the largest limit there is: not spent, if the ceiling is a limit.
-pub fn plan_within_ceiling(table: &[u8], charge: u32, cores: &[u8]) -> Allocation
+fn plan_within_ceiling(table: &[u8], charge: u32, cores: &[u8]) -> Allocation
     ensures answer { λ r. ⌜ r ≡ planOf (beside (now (table .entry)) charge (now (cores .entry))) (min (ceilingOf (beside (now (table .entry)) charge (now (cores .entry))) .ceiling) 4294967295) ⌝ }
     ensures unspent { λ r. ⌜ (ceilingOf (beside (now (table .entry)) charge (now (cores .entry))) .ceiling ≤ 4294967295 → r .verdict ≢ Spent) ⌝ }
 {
@@ -28,7 +28,7 @@ pub fn plan_within_ceiling(table: &[u8], charge: u32, cores: &[u8]) -> Allocatio
 }
 
 // The first tick of core 1 of a plan, on a board with a switch charge of 1.
-pub fn first_tick(table: &[u8], cores: &[u8], n: usize, requests: [u32; 16]) -> Ticked
+fn first_tick(table: &[u8], cores: &[u8], n: usize, requests: [u32; 16]) -> Ticked
     requires { ⌜ n ≤ 16 ⌝ }
     ensures { λ r. ⌜ tickAnswer r ≡ firstTick (now (table .entry)) (now (cores .entry)) n requests ⌝ }
 {
@@ -41,7 +41,7 @@ pub fn first_tick(table: &[u8], cores: &[u8], n: usize, requests: [u32; 16]) -> 
 }
 
 // The plan of five tasks, the first tied to core 2 and the fourth to core 1.
-pub fn tied_plan(table: &[u8]) -> Allocation
+fn tied_plan(table: &[u8]) -> Allocation
     ensures { λ r. ⌜ r ≡ planOf (beside (now (table .entry)) 0 (2 ∷ 3 ∷ 3 ∷ 1 ∷ 3 ∷ [])) 1000000 ⌝ }
 {
     let cores = [2u8, 3, 3, 1, 3];
