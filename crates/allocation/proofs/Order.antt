@@ -72,7 +72,7 @@ getD-upFrom k (suc n) (suc j) h = omega (arith, getD-upFrom (suc k) n j (omega a
 
 pub length-choices : (m : ℕ) → length (choices m) ≡ m + 1
 unfolding choices
-length-choices m = length-append (upFrom 1 m) (0 ∷ []) ∙ ap (λ (n : ℕ). n + 1) (length-upFrom 1 m)
+length-choices m = omega (arith, length-append (upFrom 1 m) (0 ∷ []), length-upFrom 1 m)
 
 -- the cores from 1 upward, then 0
 pub choice-core : (m j : ℕ) → j < m → getD (choices m) j 0 ≡ suc j

@@ -60,7 +60,7 @@ same-byte n k x e h = sym (getD-replicate n k x 0 (omega arith))
 module _ (s : List ℕ) (charge : ℕ) where
   pub every-counted : besideFields s charge (everyAffinity s) .given ≡ besideFields s charge (everyAffinity s) .n
   unfolding besideFields everyAffinity
-  every-counted = omega (arith, length-replicate (taskCount s) (everyCore (coreCount s)))
+  every-counted = simp length-replicate (omega arith)
 
   pub every-affinity : besideFields s charge (everyAffinity s) .n ≤ 16 → (k : ℕ) → k < besideFields s charge (everyAffinity s) .n
       → affinityAt (besideFields s charge (everyAffinity s)) k ≡ everyCore (besideFields s charge (everyAffinity s) .m)
