@@ -1,8 +1,7 @@
-// What a table says, and one test a number: those of the sizes, of the charge and of the row of core bytes, and those of a single task.
+// What a table says, and the tests of its sizes, of the charge and of the row of core bytes.
 ghost use mathlib.Core.Path.{_≡_};
-ghost use Prim.Native.Nat.{_≤_, _<_};
 ghost use Rattle.refusal.specs.Tests.{inOrder};
-ghost use Rattle.fields.specs.Tests.{tasksTest, coresTest, sizeTests, chargeTest, badPeriod, badBudget, badCost, badAffinity, rowTest};
+ghost use Rattle.fields.specs.Tests.{tasksTest, coresTest, sizeTests, chargeTest, rowTest};
 use refusal::Cause;
 use refusal::Outcome;
 
@@ -67,41 +66,9 @@ pub fn charge_test(f: Fields) -> Outcome
     refusal::refuse_if(MOST_CHARGE < f.charge, Cause::Charge)
 }
 
-// Whether the period of task `k` is outside 1 to 10,000.
-pub fn is_bad_period(f: Fields, k: usize) -> bool
-    requires { ⌜ k < 16 ⌝ }
-    ensures { λ r. ⌜ r ≡ badPeriod f k ⌝ }
-{
-    numbers::outside(1, LONGEST_PERIOD, f.periods[k] as u64)
-}
-
-// Whether the budget of task `k` is 0 or above its period.
-pub fn is_bad_budget(f: Fields, k: usize) -> bool
-    requires { ⌜ k < 16 ⌝ }
-    ensures { λ r. ⌜ r ≡ badBudget f k ⌝ }
-{
-    numbers::outside(1, f.periods[k] as u64, f.budgets[k] as u64)
-}
-
-// Whether the budget of task `k`, with the charge, is above its period. The sum may pass 32 bits in fields that are not tested.
-pub fn is_bad_cost(f: Fields, k: usize) -> bool
-    requires { ⌜ k < 16 ⌝ }
-    ensures { λ r. ⌜ r ≡ badCost f k ⌝ }
-{
-    (f.periods[k] as u64) < numbers::sum(f.budgets[k], f.charge)
-}
-
 // Number 15: the row of core bytes has another length than n,
 pub fn row_test(f: Fields) -> Outcome
     ensures { λ r. ⌜ r ≡ rowTest f ⌝ }
 {
     refusal::refuse_if(f.given != f.n, Cause::Affinity(0))
-}
-
-// Whether the core byte of task `k` is 0 or has a bit above core m.
-pub fn is_bad_affinity(f: Fields, k: usize) -> bool
-    requires { ⌜ (k < 16) × (f .m ≤ 4) ⌝ }
-    ensures { λ r. ⌜ r ≡ badAffinity f k ⌝ }
-{
-    affinity::is_unfit(f.affinity[k], f.m)
 }

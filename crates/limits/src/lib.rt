@@ -1,20 +1,13 @@
-// The tests of the limits over all tasks of a table, joined in their order, and the least common multiple of the periods.
+// The tests of the limits over all tasks of a table, joined in their order.
 ghost use mathlib.Core.Path.{_≡_};
 ghost use Prim.Native.Nat.{_≤_};
 ghost use Rattle.numbers.specs.First.{first};
 ghost use Rattle.refusal.specs.Tests.{inOrder};
-ghost use Rattle.fields.specs.Tests.{badPeriod, badBudget, badCost, badAffinity, periodsTest, budgetsTest, costsTest, affinityTest, hyperperiodTest, limitTests};
+ghost use Rattle.fields.specs.Tests.{badPeriod, badBudget, badCost, badAffinity, periodsTest, budgetsTest, costsTest, affinityTest, limitTests};
 ghost use Rattle.fields.specs.Limits.{Sized};
-ghost use Rattle.limits.specs.Multiple.{multipleOf};
 use fields::Fields;
 use refusal::Cause;
 use refusal::Outcome;
-
-// The least common multiple of the periods, or the first task, from 1, at which it exceeds 1,000,000.
-pub struct Multiple {
-    pub exceeded: usize,
-    pub value: u32,
-}
 
 // The first task, from 1, with a bad period; 0 if there is none.
 fn first_bad_period(f: Fields) -> usize
@@ -23,7 +16,7 @@ fn first_bad_period(f: Fields) -> usize
 {
     let mut k = 0;
     while k < f.n {
-        if fields::is_bad_period(f, k) {
+        if ranges::is_bad_period(f, k) {
             return k + 1;
         }
         k += 1;
@@ -38,7 +31,7 @@ fn first_bad_budget(f: Fields) -> usize
 {
     let mut k = 0;
     while k < f.n {
-        if fields::is_bad_budget(f, k) {
+        if ranges::is_bad_budget(f, k) {
             return k + 1;
         }
         k += 1;
@@ -53,7 +46,7 @@ fn first_bad_cost(f: Fields) -> usize
 {
     let mut k = 0;
     while k < f.n {
-        if fields::is_bad_cost(f, k) {
+        if ranges::is_bad_cost(f, k) {
             return k + 1;
         }
         k += 1;
@@ -68,36 +61,12 @@ fn first_bad_affinity(f: Fields) -> usize
 {
     let mut k = 0;
     while k < f.n {
-        if fields::is_bad_affinity(f, k) {
+        if ranges::is_bad_affinity(f, k) {
             return k + 1;
         }
         k += 1;
     }
     0
-}
-
-// The least common multiple of the periods, task by task until it exceeds 1,000,000.
-pub fn common_multiple(f: Fields) -> Multiple
-    requires { ⌜ f .n ≤ 16 ⌝ }
-    ensures { λ r. ⌜ r ≡ multipleOf f ⌝ }
-{
-    let mut h: u32 = 1;
-    let mut k = 0;
-    while k < f.n {
-        let next = numbers::lcm(h, f.periods[k]);
-        if fields::MOST_MULTIPLE < next {
-            return Multiple {
-                exceeded: k + 1,
-                value: 0,
-            };
-        }
-        h = next as u32;
-        k += 1;
-    }
-    Multiple {
-        exceeded: 0,
-        value: h,
-    }
 }
 
 // Number 5.
@@ -136,15 +105,6 @@ fn affinity_test(f: Fields) -> Outcome
     refusal::refuse_if(task != 0, Cause::Affinity(task))
 }
 
-// Number 7.
-fn hyperperiod_test(f: Fields) -> Outcome
-    requires { ⌜ f .n ≤ 16 ⌝ }
-    ensures { λ r. ⌜ r ≡ hyperperiodTest f ⌝ }
-{
-    let task = common_multiple(f).exceeded;
-    refusal::refuse_if(task != 0, Cause::Hyperperiod(task))
-}
-
 // Number 13, then 5, 6, 14, 15 and 7.
 pub fn limit_tests(f: Fields) -> Outcome
     requires { ⌜ Sized f ⌝ }
@@ -156,7 +116,7 @@ pub fn limit_tests(f: Fields) -> Outcome
     let costs = costs_test(f);
     let row = fields::row_test(f);
     let affinity = affinity_test(f);
-    let hyperperiod = hyperperiod_test(f);
+    let hyperperiod = ranges::hyperperiod_test(f);
     let from_affinity = refusal::then(affinity, hyperperiod);
     let from_row = refusal::then(row, from_affinity);
     let from_costs = refusal::then(costs, from_row);

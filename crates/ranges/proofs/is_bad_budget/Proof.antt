@@ -1,8 +1,8 @@
 -- The test is the definition.
 use Rattle.fields.specs.Tests.{badBudget}
 use borrow.Author.Needs.{needs}
-use Rattle.fields.proofs.is_bad_budget.Statement.{statement}
-use Rattle.fields.proofs.is_bad_budget.Tie as tie
+use Rattle.ranges.proofs.is_bad_budget.Statement.{statement}
+use Rattle.ranges.proofs.is_bad_budget.Tie as tie
 
 returns : tie.Need-returns
 unfolding badBudget

@@ -1,8 +1,8 @@
 -- The test is the definition.
 use Rattle.fields.specs.Tests.{badAffinity}
 use borrow.Author.Needs.{needs}
-use Rattle.fields.proofs.is_bad_affinity.Statement.{statement}
-use Rattle.fields.proofs.is_bad_affinity.Tie as tie
+use Rattle.ranges.proofs.is_bad_affinity.Statement.{statement}
+use Rattle.ranges.proofs.is_bad_affinity.Tie as tie
 
 returns : tie.Need-returns
 unfolding badAffinity

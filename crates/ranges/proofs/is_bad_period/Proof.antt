@@ -1,8 +1,8 @@
 -- The test is the definition.
 use Rattle.fields.specs.Tests.{badPeriod}
 use borrow.Author.Needs.{needs}
-use Rattle.fields.proofs.is_bad_period.Statement.{statement}
-use Rattle.fields.proofs.is_bad_period.Tie as tie
+use Rattle.ranges.proofs.is_bad_period.Statement.{statement}
+use Rattle.ranges.proofs.is_bad_period.Tie as tie
 
 returns : tie.Need-returns
 unfolding badPeriod

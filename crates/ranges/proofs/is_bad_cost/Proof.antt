@@ -1,8 +1,8 @@
 -- The test is the definition.
 use Rattle.fields.specs.Tests.{badCost}
 use borrow.Author.Needs.{needs}
-use Rattle.fields.proofs.is_bad_cost.Statement.{statement}
-use Rattle.fields.proofs.is_bad_cost.Tie as tie
+use Rattle.ranges.proofs.is_bad_cost.Statement.{statement}
+use Rattle.ranges.proofs.is_bad_cost.Tie as tie
 
 returns : tie.Need-returns
 unfolding badCost
