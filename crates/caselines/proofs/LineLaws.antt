@@ -20,8 +20,8 @@ use Rattle.start.specs.declared.Started.{Started}
 use Rattle.runner.specs.declared.Core.{Core}
 use Rattle.runner.specs.declared.Ticked.{Ticked}
 use Rattle.text.specs.Ascii.{ascii}
-use Rattle.text.specs.Decimal.{front, digitsBy, decimal, field}
-use Rattle.text.specs.Joined.{joined, fields}
+use Rattle.decimal.specs.Decimal.{front, digitsBy, decimal, field}
+use Rattle.decimal.specs.Joined.{joined, fields}
 use Rattle.text.specs.Shown.{shown, Appended}
 use Rattle.text.specs.declared.Text.{Text}
 use Rattle.text.proofs.ClipLaws.{append-both, append-within, append-whole}

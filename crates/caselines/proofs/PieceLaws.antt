@@ -7,10 +7,10 @@ use native.Mathlib.Decide.{decLt}
 use native.Mathlib.Omega.{arith}
 use lib.ListN.{length, take, length-take}
 use lib.Seq.{take-all, length-take-le}
-use Rattle.text.specs.Joined.{fields}
+use Rattle.decimal.specs.Joined.{fields}
 use Rattle.text.specs.Shown.{shown, Appended}
 use Rattle.text.specs.declared.Text.{Text}
-use Rattle.text.specs.Decimal.{field}
+use Rattle.decimal.specs.Decimal.{field}
 use Rattle.text.proofs.ClipLaws.{append-both, append-whole}
 use Rattle.refusal.specs.declared.Outcome.{Outcome}
 use Rattle.storing.specs.declared.Transfer.{Transfer}

@@ -4,8 +4,8 @@ use mathlib.Core.List.{List, _++_}
 use lib.ListN.{take}
 use Rattle.numbers.specs.Rows.{row, entry}
 use Rattle.text.specs.Ascii.{ascii}
-use Rattle.text.specs.Decimal.{decimal, field}
-use Rattle.text.specs.Joined.{joined, fields}
+use Rattle.decimal.specs.Decimal.{decimal, field}
+use Rattle.decimal.specs.Joined.{joined, fields}
 use Rattle.refusal.specs.Causes.{numberIn, placeIn}
 use Rattle.refusal.specs.declared.Outcome.{Outcome}
 use Rattle.fields.specs.declared.Fields.{Fields}

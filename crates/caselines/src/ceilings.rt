@@ -13,6 +13,6 @@ pub fn ceiling_line(answer: StepCeiling) -> Text
     let nothing = text::empty();
     let outcome = answer.outcome;
     let start = lines::append_outcome(nothing, outcome);
-    let ceiling = text::append_field(start, answer.ceiling);
+    let ceiling = decimal::append_field(start, answer.ceiling);
     text::append_bytes(ceiling, b"\n")
 }

@@ -28,7 +28,7 @@ pub fn tick_line(ticked: Ticked) -> Text
     let nothing = text::empty();
     let outcome = ticked.outcome;
     let start = lines::append_outcome(nothing, outcome);
-    let run = text::append_field(start, ticked.run as u64);
-    let late = text::append_field(run, ticked.late as u64);
+    let run = decimal::append_field(start, ticked.run as u64);
+    let late = decimal::append_field(run, ticked.late as u64);
     text::append_bytes(late, b"\n")
 }

@@ -1,6 +1,6 @@
 // The pieces that lines share.
 ghost use Rattle.text.specs.Shown.{Appended};
-ghost use Rattle.text.specs.Joined.{joined, fields};
+ghost use Rattle.decimal.specs.Joined.{joined, fields};
 ghost use Rattle.caselines.specs.Lines.{outcomeFields, slotFields, recordFields};
 use edf::Slot;
 use refusal::Outcome;
@@ -14,8 +14,8 @@ pub fn append_outcome(t: Text, outcome: Outcome) -> Text
     match outcome {
         Outcome::Accepted => text::append_bytes(t, b"0 0"),
         Outcome::Refused(cause) => {
-            let number = text::append_decimal(t, refusal::number(cause) as u64);
-            text::append_field(number, refusal::place(cause) as u64)
+            let number = decimal::append_decimal(t, refusal::number(cause) as u64);
+            decimal::append_field(number, refusal::place(cause) as u64)
         }
     }
 }
@@ -27,7 +27,7 @@ pub fn append_row(t: Text, row: [u32; 16]) -> Text
     let mut longer = t;
     let mut k = 0usize;
     while k < 16 {
-        let next = text::append_field(longer, row[k] as u64);
+        let next = decimal::append_field(longer, row[k] as u64);
         longer = next;
         k += 1;
     }
@@ -38,17 +38,17 @@ pub fn append_row(t: Text, row: [u32; 16]) -> Text
 pub fn append_cores(t: Text, cores: [u8; 16]) -> Text
     ensures { λ r. ⌜ Appended t (fields cores) 336 r ⌝ }
 {
-    text::append_numbers(t, &cores)
+    decimal::append_numbers(t, &cores)
 }
 
 // Period, budget, ticks until release and ticks owed.
 fn append_slot(t: Text, s: Slot) -> Text
     ensures { λ r. ⌜ Appended t (slotFields s) 84 r ⌝ }
 {
-    let period = text::append_field(t, s.period as u64);
-    let budget = text::append_field(period, s.budget as u64);
-    let until = text::append_field(budget, s.until as u64);
-    text::append_field(until, s.remaining as u64)
+    let period = decimal::append_field(t, s.period as u64);
+    let budget = decimal::append_field(period, s.budget as u64);
+    let until = decimal::append_field(budget, s.until as u64);
+    decimal::append_field(until, s.remaining as u64)
 }
 
 // Sixteen slots.
@@ -70,7 +70,7 @@ fn append_slots(t: Text, slots: [Slot; 16]) -> Text
 pub fn append_record(t: Text, core: Core) -> Text
     ensures { λ r. ⌜ Appended t (recordFields core) 1365 r ⌝ }
 {
-    let charge = text::append_field(t, core.charge as u64);
+    let charge = decimal::append_field(t, core.charge as u64);
     let slots = core.slots;
     append_slots(charge, slots)
 }

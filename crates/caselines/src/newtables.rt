@@ -12,10 +12,10 @@ use text::Text;
 fn append_board(text: Text, t: TaskSet) -> Text
     ensures { λ r. ⌜ Appended text (boardFields t) 84 r ⌝ }
 {
-    let n = text::append_field(text, t.fields.n as u64);
-    let m = text::append_field(n, t.fields.m as u64);
-    let charge = text::append_field(m, t.fields.charge as u64);
-    text::append_field(charge, t.hyperperiod as u64)
+    let n = decimal::append_field(text, t.fields.n as u64);
+    let m = decimal::append_field(n, t.fields.m as u64);
+    let charge = decimal::append_field(m, t.fields.charge as u64);
+    decimal::append_field(charge, t.hyperperiod as u64)
 }
 
 // Periods, budgets and core bytes.

@@ -17,7 +17,7 @@ pub fn answer_start(answer: Transfer) -> Text
     let nothing = text::empty();
     let outcome = answer.outcome;
     let start = lines::append_outcome(nothing, outcome);
-    text::append_field(start, answer.length as u64)
+    decimal::append_field(start, answer.length as u64)
 }
 
 // How many of the bytes that are left make the next piece.
@@ -33,5 +33,5 @@ pub fn piece(left: &[u8]) -> Text
 {
     let nothing = text::empty();
     let n = piece_length(left.len());
-    text::append_numbers(nothing, &left[..n])
+    decimal::append_numbers(nothing, &left[..n])
 }

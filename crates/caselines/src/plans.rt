@@ -27,9 +27,9 @@ pub fn plan_line(plan: Allocation) -> Text
     let nothing = text::empty();
     let verdict = plan.verdict;
     let start = lines::append_outcome(nothing, planner::verdict_outcome(verdict));
-    let word = text::append_field(start, verdict_number(verdict));
-    let rejected = text::append_field(word, plan.rejected as u64);
-    let steps = text::append_field(rejected, plan.steps as u64);
+    let word = decimal::append_field(start, verdict_number(verdict));
+    let rejected = decimal::append_field(word, plan.rejected as u64);
+    let steps = decimal::append_field(rejected, plan.steps as u64);
     let placement = plan.placement;
     let cores = lines::append_cores(steps, placement);
     text::append_bytes(cores, b"\n")

@@ -13,8 +13,8 @@ pub fn record_line(ticked: Ticked) -> Text
     let nothing = text::empty();
     let outcome = ticked.outcome;
     let start = lines::append_outcome(nothing, outcome);
-    let run = text::append_field(start, ticked.run as u64);
-    let late = text::append_field(run, ticked.late as u64);
+    let run = decimal::append_field(start, ticked.run as u64);
+    let late = decimal::append_field(run, ticked.late as u64);
     let core = ticked.core;
     let record = lines::append_record(late, core);
     text::append_bytes(record, b"\n")

@@ -34,9 +34,9 @@ fn order_numbers(order: [usize; 16], n: usize) -> [u32; 16]
 fn append_sizes(text: Text, t: TaskSet) -> Text
     ensures { λ r. ⌜ Appended text (sizeFields t) 63 r ⌝ }
 {
-    let n = text::append_field(text, t.fields.n as u64);
-    let m = text::append_field(n, t.fields.m as u64);
-    text::append_field(m, t.hyperperiod as u64)
+    let n = decimal::append_field(text, t.fields.n as u64);
+    let m = decimal::append_field(n, t.fields.m as u64);
+    decimal::append_field(m, t.hyperperiod as u64)
 }
 
 // Periods, budgets, demands and planning order.

@@ -1,2 +1,2 @@
-pub mod SumLaws
+pub mod FreeLaws
 pub mod PromiseLaws

@@ -40,10 +40,12 @@ use Rattle.planner.specs.Promise.{walkOf}
 use Rattle.planner.specs.declared.Verdict.the-variants.{Spent}
 use Rattle.planner.proofs.PlanLaws.{plan-accepted-is, plan-refused-is}
 use Rattle.planner.proofs.PromiseLaws.{promised}
-use Rattle.ceiling.specs.Ceiling.{coresOf, someTied, factorFor, sumOfProducts, plannedBytes, stepCeiling, ceilingFor, refusedCeiling, ceilingBy, ceilingOf}
+use Rattle.products.specs.Products.{coresOf, someTied, factorFor, sumOfProducts}
+use Rattle.products.proofs.SumLaws.{sums-cong, sums-mono, formulas}
+use Rattle.ceiling.specs.Ceiling.{plannedBytes, stepCeiling, ceilingFor, refusedCeiling, ceilingBy, ceilingOf}
 use Rattle.ceiling.specs.Promise.{permittedTo, Ceils, Promise, freeCeiling, Few}
 use Rattle.ceiling.specs.declared.StepCeiling.{StepCeiling}
-use Rattle.ceiling.proofs.SumLaws.{sums-cong, sums-mono, ceiling-grows, usual-ceilings}
+use Rattle.ceiling.proofs.FreeLaws.{ceiling-grows, usual-ceilings}
 
 -- ---- fields within the limits
 
@@ -118,9 +120,9 @@ module _ (f : Fields) (w : Within f) where
       let b : pred j < n = omega arith in
       rw e (ap (λ (x : ℕ). x + 1) (cores-are (pred j) b ∙ ap (λ (byte : ℕ). permittedCount byte m) (byte-is (pred j) b .1)))
 
-  free-factor : tied ≡ false → (j : ℕ) → factorFor tied (plannedBytes f) m j ≡ min j m + 1
-  unfolding factorFor
-  free-factor e j = rw e
+  free-sum : tied ≡ false → stepCeiling f ≡ freeCeiling m n
+  unfolding stepCeiling
+  free-sum e = rw e (formulas (plannedBytes f) m n .free)
 
   steps-within : length (walkOf f) ≤ stepCeiling f
   unfolding stepCeiling sumOfProducts tableProblem
@@ -130,7 +132,7 @@ module _ (f : Fields) (w : Within f) where
       (sums-mono (λ j. permittedCount (entry (plannedBytes f) (pred j)) m + 1) (factorFor tied (plannedBytes f) m) n
       (λ j i h. rw (tied-byte e j) (omega (arith, count-grows (entry (plannedBytes f) (pred j)) m 8 (omega (arith, w .sizes .cores)))))))
       (λ e. le-trans (rw problem-long at (walk-steps P (all-twins e)))
-      (le-of-eq (sums-cong (λ j. min j m + 1) (factorFor tied (plannedBytes f) m) n (λ j i h. sym (free-factor e j)))))
+      (le-of-eq (sym (free-sum e))))
       (true-or-false tied)
     where
       tied-byte : tied ≡ true → (j : ℕ) → factorFor tied (plannedBytes f) m j ≡ coresOf (plannedBytes f) (pred j) + 1
@@ -139,7 +141,7 @@ module _ (f : Fields) (w : Within f) where
   pub ceils : Ceils f (stepCeiling f)
   unfolding stepCeiling sumOfProducts
   ceils = record {
-    free = λ free. sums-cong _ (λ j. min j m + 1) n (λ j i h. free-factor (none-tied free) j);
+    free = λ free. free-sum (none-tied free);
     tied = λ t. sums-cong _ (λ j. permittedTo f j + 1) n (tied-factor (one-tied (t .0) (t .1) (t .2) (t .3) (t .4) (t .5)));
     ordered = stated-order f w;
     steps = steps-within;

@@ -6,7 +6,7 @@ use native.Mathlib.Omega.{arith}
 use native.Mathlib.Nat.{pow-succ', one-le-pow}
 use borrow.Author.Tests.{lt-ltb}
 use Rattle.io.specs.Digits.{glyph}
-use Rattle.text.proofs.DecimalLaws.{decimal-one, decimal-more}
+use Rattle.decimal.proofs.DecimalLaws.{decimal-one, decimal-more}
 use Rattle.console.specs.Digits.{KitDigits}
 
 glyph-digit : (n : ℕ) → glyph (n % 10) ≡ 48 + n % 10

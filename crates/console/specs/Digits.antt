@@ -2,7 +2,7 @@
 use Prim.Native.Nat.{ℕ}
 use mathlib.Core.Path.{_≡_}
 use Rattle.io.specs.Digits.{digits, Fewest}
-use Rattle.text.specs.Decimal.{decimal}
+use Rattle.decimal.specs.Decimal.{decimal}
 
 -- The fewest decimal digits that hold a number, at least one, are its decimal.
 abbrev pub KitDigits : Type 0

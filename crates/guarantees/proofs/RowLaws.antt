@@ -32,13 +32,14 @@ use Rattle.planning.specs.Problem.{tableProblem, orderOf}
 use Rattle.planner.specs.Plan.{verdictOf, allocationOf, planFor, refusedPlan, planBy, planOf, verdictOutcome}
 use Rattle.allocation.specs.FirstFit.{lowestFit, fitFrom, firstFit, tableFit}
 use Rattle.quick.specs.Quick.{quickPlacement, quickFor, refusedQuick, quickBy, quickOf}
-use Rattle.ceiling.specs.Ceiling.{someTied, factorFor, sumOfProducts, stepCeiling, ceilingFor, refusedCeiling, ceilingBy, ceilingOf}
+use Rattle.products.specs.Products.{someTied, factorFor, sumOfProducts}
+use Rattle.ceiling.specs.Ceiling.{stepCeiling, ceilingFor, refusedCeiling, ceilingBy, ceilingOf}
 use Rattle.edf.specs.Slots.{slotTest, firstSlot}
 use Rattle.edf.specs.Tick.{owedFor, release, releaseAll, chosen, advanceAll, stepped, refusedTick, tick}
 use Rattle.edf.specs.Fresh.{freshSlot, freshSlots}
 use Rattle.placing.specs.Tests.{aboveAt, barredAt, placingOutcome}
 use Rattle.start.specs.Starts.{refusedStart, startFor, startBy, startOf}
-use Rattle.text.specs.Decimal.{front, digitsBy, decimal, field}
+use Rattle.decimal.specs.Decimal.{front, digitsBy, decimal, field}
 use Rattle.listing.specs.Lines.{refusalLine, sizesLine, taskLine, taskLines, tableLines}
 use Rattle.listing.specs.Printed.{printed}
 use Rattle.report.specs.Output.{verdictWord, summaryLine, planLines, outputOf}

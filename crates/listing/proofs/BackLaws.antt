@@ -9,8 +9,8 @@ use native.Mathlib.Numerals.{add-one}
 use Rattle.numbers.specs.Rows.{tab, entry}
 use Rattle.numbers.proofs.RowLaws.{length-tab, getD-tab}
 use Rattle.text.specs.Ascii.{ascii}
-use Rattle.text.specs.Reader.{Item, number, readText, pieces, item, nothing}
-use Rattle.text.proofs.BackLaws.{word-part, number-part, field-part, Line, line-ends}
+use Rattle.decimal.specs.Reader.{Item, number, readText, pieces, item, nothing}
+use Rattle.decimal.proofs.BackLaws.{word-part, number-part, field-part, Line, line-ends}
 use Rattle.affinity.specs.Permitted.{permittedCount, lowestPermitted}
 use Rattle.affinity.proofs.PermittedLaws.{count-within, lowest-within}
 use Rattle.fields.specs.Fields.{periodAt, budgetAt, affinityAt}

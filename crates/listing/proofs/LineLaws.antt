@@ -13,7 +13,7 @@ use Rattle.fields.specs.Fields.{periodAt, budgetAt, affinityAt}
 use Rattle.fields.specs.declared.Fields.{Fields}
 use Rattle.taskset.specs.declared.TaskSet.{TaskSet}
 use Rattle.text.specs.Ascii.{ascii}
-use Rattle.text.specs.Decimal.{decimal, field}
+use Rattle.decimal.specs.Decimal.{decimal, field}
 use Rattle.text.specs.Shown.{Appended}
 use Rattle.text.specs.declared.Text.{Text}
 use Rattle.text.proofs.ClipLaws.{append-none, append-both, append-within}

@@ -3,7 +3,7 @@ use Prim.Native.Nat.{ℕ, zero, suc, _+_}
 use mathlib.Core.List.{List, [], _++_}
 use Rattle.numbers.specs.Rows.{entry}
 use Rattle.text.specs.Ascii.{ascii}
-use Rattle.text.specs.Decimal.{decimal, field}
+use Rattle.decimal.specs.Decimal.{decimal, field}
 use Rattle.affinity.specs.Permitted.{permittedCount, lowestPermitted}
 use Rattle.fields.specs.Fields.{periodAt, budgetAt, affinityAt}
 use Rattle.fields.specs.declared.Fields.{Fields}

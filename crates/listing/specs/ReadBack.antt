@@ -6,7 +6,7 @@ use mathlib.Core.List.{List, [], _∷_}
 use lib.ListN.{length, getD}
 use Rattle.numbers.specs.Rows.{entry}
 use Rattle.numbers.specs.Sums.{sumFromOne}
-use Rattle.text.specs.Reader.{Item, number, word, readText, nothing}
+use Rattle.decimal.specs.Reader.{Item, number, word, readText, nothing}
 use Rattle.affinity.specs.Permitted.{permitted, IsLowest}
 use Rattle.refusal.specs.Conditions.{First}
 use Rattle.fields.specs.Fields.{periodAt, budgetAt, affinityAt}

@@ -20,7 +20,7 @@ fn append_refusal(t: Text, cause: Cause) -> Text
     let number = refusal::number(cause) as u64;
     let place = refusal::place(cause) as u64;
     let word = text::append_bytes(t, b"refused");
-    let fields = text::append_field(text::append_field(word, number), place);
+    let fields = decimal::append_field(decimal::append_field(word, number), place);
     text::append_bytes(fields, b"\n")
 }
 
@@ -29,9 +29,9 @@ fn append_sizes(text: Text, t: TaskSet) -> Text
     ensures { λ r. ⌜ Appended text (sizesLine t) 69 r ⌝ }
 {
     let word = text::append_bytes(text, b"table");
-    let n = text::append_field(word, t.fields.n as u64);
-    let m = text::append_field(n, t.fields.m as u64);
-    let h = text::append_field(m, t.hyperperiod as u64);
+    let n = decimal::append_field(word, t.fields.n as u64);
+    let m = decimal::append_field(n, t.fields.m as u64);
+    let h = decimal::append_field(m, t.hyperperiod as u64);
     text::append_bytes(h, b"\n")
 }
 
@@ -39,12 +39,12 @@ fn append_sizes(text: Text, t: TaskSet) -> Text
 fn append_task(t: Text, task: usize, period: u32, budget: u32, core: u8, byte: u8) -> Text
     ensures { λ r. ⌜ Appended t (taskLine task period budget core (permittedCount byte 8) (lowestPermitted byte 8)) 126 r ⌝ }
 {
-    let number = text::append_decimal(t, task as u64);
-    let p = text::append_field(number, period as u64);
-    let b = text::append_field(p, budget as u64);
-    let c = text::append_field(b, core as u64);
-    let count = text::append_field(c, affinity::count(byte) as u64);
-    let lowest = text::append_field(count, affinity::lowest(byte) as u64);
+    let number = decimal::append_decimal(t, task as u64);
+    let p = decimal::append_field(number, period as u64);
+    let b = decimal::append_field(p, budget as u64);
+    let c = decimal::append_field(b, core as u64);
+    let count = decimal::append_field(c, affinity::count(byte) as u64);
+    let lowest = decimal::append_field(count, affinity::lowest(byte) as u64);
     text::append_bytes(lowest, b"\n")
 }
 

@@ -1,9 +1,8 @@
-// A test of ranges, rows with one entry changed, whole sums and products, the greatest common divisor and the least common multiple.
+// A test of ranges, rows with one entry changed and whole sums.
 ghost use mathlib.Core.Path.{_≡_};
-ghost use Prim.Native.Nat.{_+_, _*_, min};
+ghost use Prim.Native.Nat.{_+_, min};
 ghost use lib.ListN.{set};
 ghost use Rattle.numbers.specs.Bounds.{outside as outsideOf};
-ghost use Rattle.numbers.specs.Multiples.{gcd as gcdOf, lcm as lcmOf};
 
 // Whether `x` lies outside `lo` to `hi`.
 pub fn outside(lo: u64, hi: u64, x: u64) -> bool
@@ -39,41 +38,9 @@ pub fn at_most_sixteen(n: usize) -> usize
     if n < 16 { n } else { 16 }
 }
 
-// The greatest common divisor, by Euclid's algorithm.
-pub fn gcd(a: u32, b: u32) -> u32
-    ensures { λ r. ⌜ r ≡ gcdOf a b ⌝ }
-{
-    let mut x = a;
-    let mut y = b;
-    while y != 0 {
-        let t = x % y;
-        x = y;
-        y = t;
-    }
-    x
-}
-
 // The whole sum.
 pub fn sum(a: u32, b: u32) -> u64
     ensures { λ r. ⌜ r ≡ a + b ⌝ }
 {
     (a as u64) + (b as u64)
-}
-
-// The whole product.
-pub fn product(a: u32, b: u32) -> u64
-    ensures { λ r. ⌜ r ≡ a * b ⌝ }
-{
-    (a as u64) * (b as u64)
-}
-
-// The least common multiple; 0 where one of the two is 0.
-pub fn lcm(a: u32, b: u32) -> u64
-    ensures { λ r. ⌜ r ≡ lcmOf a b ⌝ }
-{
-    let g = gcd(a, b);
-    if g == 0 {
-        return 0;
-    }
-    product(a / g, b)
 }

@@ -3,8 +3,8 @@ use Prim.Native.Nat.{ℕ}
 use mathlib.Core.Path.{_≡_, refl}
 use mathlib.Core.List.{List, [], _∷_}
 use Rattle.text.specs.Ascii.{ascii}
-use Rattle.text.specs.Reader.{Item, number}
-use Rattle.text.proofs.BackLaws.{word-part, field-part, Line, line-ends}
+use Rattle.decimal.specs.Reader.{Item, number}
+use Rattle.decimal.proofs.BackLaws.{word-part, field-part, Line, line-ends}
 use Rattle.taskset.specs.Reading.{taskSetOf}
 use Rattle.taskset.specs.Table.{Table, Sound}
 use Rattle.quick.specs.Quick.{quickFor}

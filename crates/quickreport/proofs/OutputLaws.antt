@@ -16,7 +16,7 @@ use Rattle.quick.specs.declared.QuickPlan.{QuickPlan}
 use Rattle.quick.proofs.QuickLaws.{quick-accepted-is}
 use Rattle.quick.proofs.PromiseLaws.{quick-outcome}
 use Rattle.text.specs.Ascii.{ascii}
-use Rattle.text.specs.Decimal.{field}
+use Rattle.decimal.specs.Decimal.{field}
 use Rattle.text.specs.Shown.{shown, Appended}
 use Rattle.text.specs.declared.Text.{Text}
 use Rattle.text.proofs.ClipLaws.{append-both, append-whole}

@@ -3,8 +3,8 @@ use Prim.Native.Nat.{ℕ}
 use mathlib.Core.Path.{_≡_}
 use mathlib.Core.List.{List, [], _∷_, _++_}
 use Rattle.text.specs.Ascii.{ascii}
-use Rattle.text.specs.Decimal.{field}
-use Rattle.text.specs.Reader.{Item, number, word}
+use Rattle.decimal.specs.Decimal.{field}
+use Rattle.decimal.specs.Reader.{Item, number, word}
 use Rattle.taskset.specs.Reading.{taskSetOf}
 use Rattle.taskset.specs.declared.TaskSet.{TaskSet}
 use Rattle.taskset.specs.Table.{Table, readingOf}

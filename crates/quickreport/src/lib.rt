@@ -14,7 +14,7 @@ fn append_summary(t: Text, plan: QuickPlan) -> Text
     ensures { λ r. ⌜ Appended t (quickSummary plan) 27 r ⌝ }
 {
     let word = text::append_bytes(t, b"quick");
-    let rejected = text::append_field(word, plan.rejected as u64);
+    let rejected = decimal::append_field(word, plan.rejected as u64);
     text::append_bytes(rejected, b"\n")
 }
 

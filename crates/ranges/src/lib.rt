@@ -53,7 +53,7 @@ pub fn common_multiple(f: Fields) -> Multiple
     let mut h: u32 = 1;
     let mut k = 0;
     while k < f.n {
-        let next = numbers::lcm(h, f.periods[k]);
+        let next = multiples::lcm(h, f.periods[k]);
         if fields::MOST_MULTIPLE < next {
             return Multiple {
                 exceeded: k + 1,

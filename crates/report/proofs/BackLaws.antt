@@ -2,8 +2,8 @@
 use Prim.Native.Nat.{ℕ}
 use mathlib.Core.Path.{refl, ap}
 use mathlib.Core.List.{List, [], _∷_}
-use Rattle.text.specs.Reader.{Item, number, word}
-use Rattle.text.proofs.BackLaws.{Part, word-part, field-part, Line, line-ends}
+use Rattle.decimal.specs.Reader.{Item, number, word}
+use Rattle.decimal.proofs.BackLaws.{Part, word-part, field-part, Line, line-ends}
 use Rattle.refusal.specs.declared.Cause.{Cause}
 use Rattle.taskset.specs.Reading.{taskSetOf}
 use Rattle.taskset.specs.Table.{Table, Sound}

@@ -4,7 +4,7 @@ use mathlib.Core.Path.{_≡_}
 use Rattle.planner.specs.declared.Allocation.{Allocation}
 use Rattle.planner.specs.declared.Verdict.{Verdict}
 use Rattle.text.specs.Ascii.{ascii}
-use Rattle.text.specs.Decimal.{field}
+use Rattle.decimal.specs.Decimal.{field}
 use Rattle.text.specs.Shown.{Appended}
 use Rattle.text.specs.declared.Text.{Text}
 use Rattle.text.proofs.ClipLaws.{append-both, append-within}

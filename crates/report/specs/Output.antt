@@ -2,7 +2,7 @@
 use Prim.Native.Nat.{ℕ}
 use mathlib.Core.List.{List, _++_}
 use Rattle.text.specs.Ascii.{ascii}
-use Rattle.text.specs.Decimal.{field}
+use Rattle.decimal.specs.Decimal.{field}
 use Rattle.taskset.specs.declared.TaskSet.{TaskSet}
 use Rattle.taskset.specs.Table.{Table, readingOf}
 use Rattle.planner.specs.Plan.{planOf, verdictOutcome}

@@ -2,7 +2,7 @@
 use Prim.Native.Nat.{ℕ}
 use mathlib.Core.Path.{_≡_}
 use mathlib.Core.List.{List, [], _∷_}
-use Rattle.text.specs.Reader.{Item, number, word}
+use Rattle.decimal.specs.Reader.{Item, number, word}
 use Rattle.refusal.specs.declared.Cause.{Cause}
 use Rattle.taskset.specs.Reading.{taskSetOf}
 use Rattle.taskset.specs.Table.{Table}

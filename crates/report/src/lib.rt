@@ -31,8 +31,8 @@ fn append_summary(t: Text, plan: Allocation) -> Text
 {
     let verdict = plan.verdict;
     let word = append_verdict(t, verdict);
-    let rejected = text::append_field(word, plan.rejected as u64);
-    let steps = text::append_field(rejected, plan.steps as u64);
+    let rejected = decimal::append_field(word, plan.rejected as u64);
+    let steps = decimal::append_field(rejected, plan.steps as u64);
     text::append_bytes(steps, b"\n")
 }
 

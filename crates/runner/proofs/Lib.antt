@@ -1,5 +1,3 @@
-pub mod SlotMore
-pub mod SweepLaws
 pub mod TickLaws
 pub mod PlainLaws
 pub mod RecordLaws

@@ -21,7 +21,7 @@ use Rattle.edf.proofs.SlotSteps.{ran-at}
 use Rattle.runner.specs.declared.Core.{Core}
 use Rattle.runner.specs.declared.Ticked.{Ticked}
 use Rattle.runner.specs.Answers.{tickAnswer}
-use Rattle.runner.proofs.SlotMore.{getD-any}
+use Rattle.slots.proofs.ReadLaws.{getD-any}
 
 -- Counting down and running do not touch each other.
 run-advance : (task k : ℕ) (s : Slot) → run task k (advance k s) ≡ advance k (run task k s)

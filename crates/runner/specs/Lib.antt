@@ -1,4 +1,3 @@
 pub mod Answers
-pub mod Sweep
 pub mod Records
 pub mod Plain

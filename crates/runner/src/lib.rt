@@ -1,11 +1,8 @@
 // The runner of one core: its record and one tick.
 ghost use mathlib.Core.Path.{_≡_};
 ghost use mathlib.Core.Logic.{_≢_};
-ghost use mathlib.Core.List.{List};
 ghost use Prim.Native.Nat.{_≤_};
-ghost use lib.Dec.{eqb};
-ghost use Rattle.edf.specs.declared.Slot.{Slot};
-ghost use Rattle.edf.specs.Slots.{each, firstWrong};
+ghost use Rattle.edf.specs.Slots.{each};
 ghost use Rattle.edf.specs.Tick.{run as runSlot, stepped as steppedOf, tick as tickOf};
 ghost use Rattle.refusal.specs.Conditions.{Decides};
 ghost use Rattle.refusal.specs.declared.Outcome.the-variants.{Accepted, Refused};
@@ -13,8 +10,6 @@ ghost use Rattle.refusal.specs.declared.Cause.the-variants.{Slot as WrongSlot};
 ghost use Rattle.runner.specs.Answers.{tickAnswer};
 ghost use Rattle.runner.specs.Plain.{PlainTick, PlainRefusal};
 ghost use Rattle.runner.specs.Records.{ValidRecord, recordConditions};
-ghost use Rattle.runner.specs.Sweep.{AfterSlots, Passing};
-use edf::Claim;
 use edf::Slot;
 use refusal::Cause;
 use refusal::Outcome;
@@ -31,92 +26,6 @@ pub struct Ticked {
     pub run: usize,
     pub late: usize,
     pub outcome: Outcome,
-}
-
-// What the pass over the slots leaves: the slots, the late task and the choice.
-struct Swept {
-    slots: [Slot; 16],
-    late: usize,
-    choice: Claim,
-}
-
-// Whether every slot can be. It does not stop at one that cannot, so that the compiler may test several at once.
-fn all_can_be(charge: u32, slots: [Slot; 16]) -> bool
-    requires { ⌜ charge ≤ 9 ⌝ }
-    ensures { λ r. ⌜ r ≡ eqb (firstWrong charge slots) 0 ⌝ }
-{
-    let mut good = true;
-    let mut i: usize = 0;
-    while i < 16 {
-        let s = slots[i];
-        good = good & !slots::cannot_be(charge, s);
-        i += 1;
-    }
-    good
-}
-
-// The number of the first slot that cannot be; 0 if there is none.
-fn first_wrong(charge: u32, slots: [Slot; 16]) -> usize
-    requires { ⌜ charge ≤ 9 ⌝ }
-    ensures { λ r. ⌜ r ≡ firstWrong charge slots ⌝ }
-{
-    let mut i: usize = 0;
-    while i < 16 {
-        let s = slots[i];
-        if slots::cannot_be(charge, s) {
-            return i + 1;
-        }
-        i += 1;
-    }
-    0
-}
-
-// A part of the pass: the slots from `from` up to, not including, `to`, counted from 0, where those before left these slots, late task and choice.
-// Each occupied slot is released if it is due, may become the choice, and counts down. Where `to` is `from` + 1, this is the step over one slot.
-fn pass(
-    charge: u32,
-    requests: [u32; 16],
-    mut next: [Slot; 16],
-    mut late: usize,
-    mut choice: Claim,
-    from: usize,
-    to: usize,
-) -> Swept
-    requires { ⌜ ((slots : List Slot) × Passing charge requests slots from to next late choice) ⌝ }
-    ensures { λ r. ⌜ ((slots : List Slot) → Passing charge requests slots from to next late choice → AfterSlots charge requests slots to (r .slots) (r .late) (r .choice)) ⌝ }
-{
-    let mut done = from;
-    while done < to {
-        let s = next[done];
-        if s.period != 0 {
-            let mut ready = s;
-            if s.until == 0 {
-                late = slots::late_so_far(late, done + 1, s);
-                let asked = requests[done];
-                ready = slots::released(charge, asked, s);
-            }
-            choice = slots::choice_so_far(choice, done + 1, ready);
-            next[done] = slots::advanced(ready);
-        }
-        done += 1;
-    }
-    Swept {
-        slots: next,
-        late: late,
-        choice: choice,
-    }
-}
-
-// The one pass of a tick, over all slots.
-fn sweep(charge: u32, requests: [u32; 16], slots: [Slot; 16]) -> Swept
-    requires { ⌜ ValidRecord charge slots ⌝ }
-    ensures { λ r. ⌜ AfterSlots charge requests slots 16 (r .slots) (r .late) (r .choice) ⌝ }
-{
-    let none = Claim {
-        task: 0,
-        deadline: 0,
-    };
-    pass(charge, requests, slots, 0, none, 0, 16)
 }
 
 // Step 2: the task that runs owes one tick less; with 0, idle, the slots stay as they are.
@@ -140,7 +49,7 @@ fn stepped(core: Core, requests: [u32; 16]) -> Ticked
 {
     let charge = core.charge;
     let slots = core.slots;
-    let swept = sweep(charge, requests, slots);
+    let swept = sweep::sweep(charge, requests, slots);
     let run = swept.choice.task;
     let counted = swept.slots;
     let next = after_run(run, counted);
@@ -181,10 +90,10 @@ impl Core {
             refused(self, 0)
         } else {
             let slots = self.slots;
-            if all_can_be(charge, slots) {
+            if records::all_can_be(charge, slots) {
                 stepped(self, requests)
             } else {
-                let wrong = first_wrong(charge, slots);
+                let wrong = records::first_wrong(charge, slots);
                 refused(self, wrong)
             }
         }

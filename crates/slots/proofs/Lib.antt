@@ -1,1 +1,2 @@
 pub mod SlotLaws
+pub mod ReadLaws

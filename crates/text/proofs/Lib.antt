@@ -1,6 +1,1 @@
-pub mod BackLaws
 pub mod ClipLaws
-pub mod DecimalLaws
-pub mod NumberLaws
-pub mod JoinLaws
-pub mod OnceLaws

@@ -5,7 +5,7 @@ use borrow.Author.Needs.{needs}
 use Rattle.edf.specs.Slots.{each}
 use Rattle.edf.specs.Tick.{run as runSlot}
 use Rattle.runner.proofs.TickLaws.{stepped-by, run-last}
-use Rattle.runner.proofs.SweepLaws.{swept-late, swept-run, swept-slots, swept-bound}
+use Rattle.sweep.proofs.SweepLaws.{swept-late, swept-run, swept-slots, swept-bound}
 use Rattle.runner.proofs.stepped.Statement.{statement}
 use Rattle.runner.proofs.stepped.Tie as tie
 
@@ -26,4 +26,4 @@ returns c =
     (stepped-by _ _ _ _ _ _ (swept-late size swept) (swept-run size swept) next, refl)
 
 pub stepped-spec : {M : Type 1} → statement M
-stepped-spec = tie.close (tie.spec (λ c κs. search needs) after-run-requires returns)
+stepped-spec = tie.close (tie.spec (λ c κs. c .before .pre .slots-can-be) after-run-requires returns)

@@ -1,7 +1,7 @@
 -- After k turns the first k numbers are there.
 use Prim.Native.Nat.{_-_}
-use Rattle.text.specs.Decimal.{field}
-use Rattle.text.proofs.JoinLaws.{Joined, join-start, join-next, join-done}
+use Rattle.decimal.specs.Decimal.{field}
+use Rattle.decimal.proofs.JoinLaws.{Joined, join-start, join-next, join-done}
 use borrow.Author.Needs.{needs}
 use Rattle.caselines.proofs.lines.append_row.Statement.{statement}
 use Rattle.caselines.proofs.lines.append_row.Tie as tie

@@ -1,6 +1,6 @@
 -- After k turns the first k slots are there.
 use Prim.Native.Nat.{_-_}
-use Rattle.text.proofs.JoinLaws.{Joined, join-start, join-next, join-done}
+use Rattle.decimal.proofs.JoinLaws.{Joined, join-start, join-next, join-done}
 use Rattle.caselines.specs.Lines.{slotFields}
 use borrow.Author.Needs.{needs}
 use Rattle.caselines.proofs.lines.append_slots.Statement.{statement}

@@ -1,0 +1,5 @@
+pub mod BackLaws
+pub mod DecimalLaws
+pub mod NumberLaws
+pub mod JoinLaws
+pub mod OnceLaws

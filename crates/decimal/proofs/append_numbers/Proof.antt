@@ -1,0 +1,21 @@
+-- After k turns the first k numbers are there.
+use Prim.Native.Nat.{_-_}
+use lib.ListN.{length}
+use native.Mathlib.Omega.{arith}
+use Rattle.decimal.specs.Decimal.{field}
+use Rattle.decimal.proofs.JoinLaws.{Joined, join-start, join-next, join-done}
+use borrow.Author.Needs.{needs}
+use Rattle.decimal.proofs.append_numbers.Statement.{statement}
+use Rattle.decimal.proofs.append_numbers.Tie as tie
+
+abbrev Inv-loop : tie.InvT-loop
+Inv-loop bytes longer₀ k₀ longer k = Joined field 21 (length bytes) longer₀ bytes longer k
+
+abbrev μ-loop : tie.MeasureT-loop
+μ-loop bytes longer₀ k₀ longer k = length bytes - k
+
+pub append-numbers-spec : {M : Type 1} → statement M
+append-numbers-spec =
+    tie.close (tie.spec Inv-loop μ-loop (λ c. search (needs, join-start)) (λ c. search needs)
+    (λ c. omega (arith, c .shared-slice-known2 .given (c .before .before .loop .k))) (λ c κs. search needs)
+    (λ c. search needs) (λ c. search needs) (λ c. search (needs, join-next)) (λ c. search (needs, join-done)))

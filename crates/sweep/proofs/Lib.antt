@@ -1,0 +1,2 @@
+pub mod SlotMore
+pub mod SweepLaws

@@ -1,8 +1,0 @@
--- A space, then the number.
-use Rattle.text.proofs.NumberLaws.{field-made}
-use borrow.Author.Needs.{needs}
-use Rattle.text.proofs.append_field.Statement.{statement}
-use Rattle.text.proofs.append_field.Tie as tie
-
-pub append-field-spec : {M : Type 1} → statement M
-append-field-spec = tie.close (tie.spec (λ c κs. search needs) (λ c κs. search needs) (λ c. search (needs, field-made)))
