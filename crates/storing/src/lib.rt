@@ -34,9 +34,9 @@ fn put_new(out: &mut [u8], f: Fields)
     let periods = f.periods;
     let budgets = f.budgets;
     let affinity = f.affinity;
-    wire::put_words(out, newform::LEAD, periods, n);
-    wire::put_words(out, newform::LEAD + 4 * n, budgets, n);
-    wire::put_bytes(out, newform::LEAD + 8 * n, affinity, n);
+    packing::put_words(out, newform::LEAD, periods, n);
+    packing::put_words(out, newform::LEAD + 4 * n, budgets, n);
+    packing::put_bytes(out, newform::LEAD + 8 * n, affinity, n);
 }
 
 // The same in the old form, which has no place for charge and core bytes.
@@ -49,8 +49,8 @@ fn put_old(out: &mut [u8], f: Fields)
     out[1] = f.m as u8;
     let periods = f.periods;
     let budgets = f.budgets;
-    wire::put_words(out, oldform::LEAD, periods, n);
-    wire::put_words(out, oldform::LEAD + 4 * n, budgets, n);
+    packing::put_words(out, oldform::LEAD, periods, n);
+    packing::put_words(out, oldform::LEAD + 4 * n, budgets, n);
 }
 
 // The tests before, then number 8: the output is shorter than the table.

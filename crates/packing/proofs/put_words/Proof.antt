@@ -2,11 +2,11 @@
 use Prim.Native.Nat.{_-_}
 use mathlib.Core.Path.{refl}
 use lib.ListN.{take}
 use Rattle.wire.specs.Bytes.{bytesOfAll}
 use Rattle.wire.proofs.LentLaws.{Put, put-start, words-next, put-done}
 use borrow.Author.Needs.{needs}
-use Rattle.wire.proofs.put_words.Statement.{statement}
-use Rattle.wire.proofs.put_words.Tie as tie
+use Rattle.packing.proofs.put_words.Statement.{statement}
+use Rattle.packing.proofs.put_words.Tie as tie
 
 abbrev Inv-loop : tie.InvT-loop
 Inv-loop out₀ at n row k₀ out k = Put out₀ at n 4 (λ j. bytesOfAll (take j row)) out k

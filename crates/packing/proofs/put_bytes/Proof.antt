@@ -3,10 +3,10 @@ use Prim.Native.Nat.{_-_}
 use mathlib.Core.Path.{refl}
 use native.Mathlib.Omega.{arith}
 use lib.ListN.{take}
 use Rattle.wire.proofs.LentLaws.{Put, put-start, bytes-next, put-done}
 use borrow.Author.Needs.{needs}
-use Rattle.wire.proofs.put_bytes.Statement.{statement}
-use Rattle.wire.proofs.put_bytes.Tie as tie
+use Rattle.packing.proofs.put_bytes.Statement.{statement}
+use Rattle.packing.proofs.put_bytes.Tie as tie
 
 abbrev Inv-loop : tie.InvT-loop
 Inv-loop out₀ at n row k₀ out k = Put out₀ at n 1 (λ j. take j row) out k
