@@ -2,8 +2,8 @@
 use Rattle.refusal.proofs.TestLaws.{refuse-at-by}
 use Rattle.refusal.specs.declared.Cause.the-variants.{Placement}
 use borrow.Author.Needs.{needs}
-use Rattle.placing.proofs.entries_test.Statement.{statement}
-use Rattle.placing.proofs.entries_test.Tie as tie
+use Rattle.entries.proofs.entries_test.Statement.{statement}
+use Rattle.entries.proofs.entries_test.Tie as tie
 
 pub entries-test-spec : {M : Type 1} → statement M
 entries-test-spec =

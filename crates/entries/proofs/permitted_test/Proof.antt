@@ -2,8 +2,8 @@
 use Rattle.refusal.proofs.TestLaws.{refuse-at-by}
 use Rattle.refusal.specs.declared.Cause.the-variants.{NotPermitted}
 use borrow.Author.Needs.{needs}
-use Rattle.placing.proofs.permitted_test.Statement.{statement}
-use Rattle.placing.proofs.permitted_test.Tie as tie
+use Rattle.entries.proofs.permitted_test.Statement.{statement}
+use Rattle.entries.proofs.permitted_test.Tie as tie
 
 pub permitted-test-spec : {M : Type 1} → statement M
 permitted-test-spec =

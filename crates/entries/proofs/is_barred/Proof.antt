@@ -1,8 +1,8 @@
 -- The test is the definition.
-use Rattle.placing.specs.Tests.{barredAt}
+use Rattle.entries.specs.Tests.{barredAt}
 use borrow.Author.Needs.{needs}
-use Rattle.placing.proofs.is_barred.Statement.{statement}
-use Rattle.placing.proofs.is_barred.Tie as tie
+use Rattle.entries.proofs.is_barred.Statement.{statement}
+use Rattle.entries.proofs.is_barred.Tie as tie
 
 pub is-barred-spec : {M : Type 1} → statement M
 unfolding barredAt
