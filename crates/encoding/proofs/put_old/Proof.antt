@@ -1,10 +1,10 @@
 -- Two bytes, then piece after piece behind them.
 use native.Mathlib.Omega.{arith}
 use lib.ListN.{length-set}
-use Rattle.storing.proofs.PutLaws.{old-periods-room, old-budgets-room, old-same, old-put}
+use Rattle.encoding.proofs.PutLaws.{old-periods-room, old-budgets-room, old-same, old-put}
 use borrow.Author.Needs.{needs}
-use Rattle.storing.proofs.put_old.Statement.{statement}
-use Rattle.storing.proofs.put_old.Tie as tie
+use Rattle.encoding.proofs.put_old.Statement.{statement}
+use Rattle.encoding.proofs.put_old.Tie as tie
 
 put-words-requires : tie.Need-put-words-requires
 put-words-requires c κs =

@@ -1,10 +1,10 @@
 -- Four bytes, then piece after piece behind them.
 use native.Mathlib.Omega.{arith}
 use lib.ListN.{length-set}
-use Rattle.storing.proofs.PutLaws.{periods-room, budgets-room, affinity-room, new-same, new-put}
+use Rattle.encoding.proofs.PutLaws.{periods-room, budgets-room, affinity-room, new-same, new-put}
 use borrow.Author.Needs.{needs}
-use Rattle.storing.proofs.put_new.Statement.{statement}
-use Rattle.storing.proofs.put_new.Tie as tie
+use Rattle.encoding.proofs.put_new.Statement.{statement}
+use Rattle.encoding.proofs.put_new.Tie as tie
 
 put-words-requires : tie.Need-put-words-requires
 put-words-requires c κs =
