@@ -35,7 +35,7 @@ fn plan_into(table: &[u8], limit: u32, plan: &mut [u8]) -> u32
         Outcome::Accepted => {
             let answer = planner::plan_tasks(reading.tasks, limit);
             let cores = answer.placement;
-            wire::put_bytes(plan, 0, cores, n);
+            packing::put_bytes(plan, 0, cores, n);
             let verdict = answer.verdict;
             code(verdict)
         }

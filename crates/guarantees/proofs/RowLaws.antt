@@ -37,7 +37,8 @@ use Rattle.ceiling.specs.Ceiling.{stepCeiling, ceilingFor, refusedCeiling, ceil
 use Rattle.edf.specs.Slots.{slotTest, firstSlot}
 use Rattle.edf.specs.Tick.{owedFor, release, releaseAll, chosen, advanceAll, stepped, refusedTick, tick}
 use Rattle.edf.specs.Fresh.{freshSlot, freshSlots}
-use Rattle.placing.specs.Tests.{aboveAt, barredAt, placingOutcome}
+use Rattle.entries.specs.Tests.{aboveAt, barredAt}
+use Rattle.placing.specs.Tests.{placingOutcome}
 use Rattle.start.specs.Starts.{refusedStart, startFor, startBy, startOf}
 use Rattle.decimal.specs.Decimal.{front, digitsBy, decimal, field}
 use Rattle.listing.specs.Lines.{refusalLine, sizesLine, taskLine, taskLines, tableLines}

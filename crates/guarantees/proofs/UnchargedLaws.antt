@@ -16,7 +16,7 @@ use Rattle.planner.proofs.PromiseLaws.{walk-rule}
 use Rattle.ceiling.proofs.PromiseLaws.{ceiling-promise}
 use Rattle.edf.specs.Tick.{owedFor}
 use Rattle.edf.proofs.DemandLaws.{owed-uncharged}
-use Rattle.placing.proofs.PlacingLaws.{barred-every}
+use Rattle.entries.proofs.EntryLaws.{barred-every}
 use Rattle.start.proofs.StartLaws.{start-alone}
 use Rattle.guarantees.specs.Demands.{Uncharged, Every, Untied, UntiedCeiling, Alone}
 

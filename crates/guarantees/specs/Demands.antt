@@ -46,7 +46,8 @@ use Rattle.runner.specs.declared.Ticked.{Ticked}
 use Rattle.runner.specs.Answers.{tickAnswer}
 use Rattle.runner.specs.Records.{ValidRecord, recordConditions}
 use Rattle.runner.specs.Plain.{PlainRefusal}
-use Rattle.placing.specs.Limits.{coreAbove, coreBarred, placingAlone, placed}
+use Rattle.entries.specs.Limits.{coreAbove, coreBarred}
+use Rattle.placing.specs.Limits.{placingAlone, placed}
 use Rattle.start.specs.Starts.{placedTasks, startOf}
 use Rattle.start.specs.Promise.{Starts}
 

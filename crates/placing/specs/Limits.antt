@@ -2,18 +2,18 @@
 use Prim.Native.Nat.{ℕ, _≤_, _<_}
 use mathlib.Core.Path.{_≡_}
 use mathlib.Core.List.{List, [], _∷_}
-use mathlib.Core.Bool.{true, false}
-use mathlib.Core.Logic.{_≢_}
+use mathlib.Core.Bool.{true}
 use lib.ListN.{length}
 use Rattle.numbers.specs.Bounds.{Outside}
 use Rattle.numbers.specs.Rows.{entry}
 use Rattle.affinity.specs.Permitted.{permitted}
-use Rattle.refusal.specs.Conditions.{Condition, only, at}
+use Rattle.refusal.specs.Conditions.{Condition, only}
 use Rattle.fields.specs.declared.Fields.{Fields}
 use Rattle.fields.specs.Fields.{affinityAt}
 use Rattle.fields.specs.Hyperperiod.{hyperperiodOf}
 use Rattle.taskset.specs.Demands.{loadOn}
 use Rattle.taskset.specs.Table.{Table, also}
+use Rattle.entries.specs.Limits.{otherPlaces, coreAbove, coreBarred}
 use Rattle.placing.specs.Tests.{placingOutcome}
 
 -- A placement, a core and its load within the paper's limits.
@@ -24,26 +24,15 @@ pub record Placed (f : Fields) (placement : List ℕ) (core : ℕ) : Type 0 wher
   pub number : (1 ≤ core) × (core ≤ f .m)
   pub fits : loadOn f placement core ≤ hyperperiodOf f
 
--- The refusals of the placing: number 9 of its length, then of its entries,
-abbrev pub otherPlaces : Fields → List ℕ → Condition
-otherPlaces f placement = only 9 (length placement ≢ f .n)
-
-abbrev pub coreAbove : Fields → List ℕ → Condition
-coreAbove f placement = at 9 (λ k. f .m < entry placement k) (f .n)
-
--- 16 where a task is on a core that its byte does not permit, whichever core is chosen,
-abbrev pub coreBarred : Fields → List ℕ → Condition
-coreBarred f placement =
-    at 16 (λ k. (1 ≤ entry placement k) × (permitted (affinityAt f k) (entry placement k) ≡ false)) (f .n)
-
--- 10 and 11 of the chosen core.
+-- The refusals of the chosen core: number 10 of its number,
 abbrev pub numberOutside : Fields → ℕ → Condition
 numberOutside f core = only 10 (Outside 1 (f .m) core)
 
+-- and 11 of its load.
 abbrev pub loadAbove : Fields → List ℕ → ℕ → Condition
 loadAbove f placement core = only 11 (hyperperiodOf f < loadOn f placement core)
 
--- They are tested in this order, each over all tasks before the next.
+-- The refusals of the placing, those of the placement first. They are tested in this order, each over all tasks before the next.
 abbrev pub placing : Fields → List ℕ → ℕ → List Condition
 placing f placement core = otherPlaces f placement ∷ coreAbove f placement ∷ coreBarred f placement ∷ numberOutside f core ∷ loadAbove f placement core ∷ []
 

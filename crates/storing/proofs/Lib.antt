@@ -1,3 +1,2 @@
-pub mod PutLaws
 pub mod StoreLaws
 pub mod StorableLaws

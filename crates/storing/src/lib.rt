@@ -1,16 +1,12 @@
 // What any call does that stores a table's fields in a lent output: the tests before, the room, the bytes in front, and the answer.
 ghost use mathlib.Core.Path.{_≡_};
-ghost use mathlib.Core.List.{_++_};
-ghost use Prim.Native.Nat.{_+_, _*_, _≤_};
-ghost use lib.ListN.{length, drop};
+ghost use lib.ListN.{length};
 ghost use Rattle.refusal.specs.Tests.{_then_, roomTest};
 ghost use Rattle.refusal.specs.declared.Cause.the-variants.{Buffer};
-ghost use Rattle.fields.specs.Limits.{Within};
 ghost use Rattle.taskset.specs.Promise.{Reads};
 ghost use Rattle.oldform.specs.Form.{oldBytes};
 ghost use Rattle.newform.specs.Form.{newBytes};
 ghost use Rattle.storing.specs.Lent.{transferBy, transferAfter, exitAfter};
-use fields::Fields;
 use refusal::Cause;
 use refusal::Outcome;
 use taskset::Reading;
@@ -19,38 +15,6 @@ use taskset::Reading;
 pub struct Transfer {
     pub outcome: Outcome,
     pub length: usize,
-}
-
-// Writes fields in the new form to the front of an output and leaves what follows.
-fn put_new(out: &mut [u8], f: Fields)
-    requires { ⌜ Within f × (4 + 9 * f .n ≤ length (now out)) ⌝ }
-    ensures { λ _. ⌜ now (out .exit) ≡ newBytes f ++ drop (length (newBytes f)) (now (out .entry)) ⌝ }
-{
-    let n = f.n;
-    out[0] = 0;
-    out[1] = n as u8;
-    out[2] = f.m as u8;
-    out[3] = f.charge as u8;
-    let periods = f.periods;
-    let budgets = f.budgets;
-    let affinity = f.affinity;
-    wire::put_words(out, newform::LEAD, periods, n);
-    wire::put_words(out, newform::LEAD + 4 * n, budgets, n);
-    wire::put_bytes(out, newform::LEAD + 8 * n, affinity, n);
-}
-
-// The same in the old form, which has no place for charge and core bytes.
-fn put_old(out: &mut [u8], f: Fields)
-    requires { ⌜ Within f × (2 + 8 * f .n ≤ length (now out)) ⌝ }
-    ensures { λ _. ⌜ now (out .exit) ≡ oldBytes f ++ drop (length (oldBytes f)) (now (out .entry)) ⌝ }
-{
-    let n = f.n;
-    out[0] = n as u8;
-    out[1] = f.m as u8;
-    let periods = f.periods;
-    let budgets = f.budgets;
-    wire::put_words(out, oldform::LEAD, periods, n);
-    wire::put_words(out, oldform::LEAD + 4 * n, budgets, n);
 }
 
 // The tests before, then number 8: the output is shorter than the table.
@@ -89,7 +53,7 @@ pub fn store_new(reading: Reading, out: &mut [u8]) -> Transfer
     match outcome {
         Outcome::Refused(_) => answer(outcome, size),
         Outcome::Accepted => {
-            put_new(out, reading.tasks.fields);
+            encoding::put_new(out, reading.tasks.fields);
             answer(outcome, size)
         }
     }
@@ -107,7 +71,7 @@ pub fn store_old(reading: Reading, out: &mut [u8]) -> Transfer
     match outcome {
         Outcome::Refused(_) => answer(outcome, size),
         Outcome::Accepted => {
-            put_old(out, reading.tasks.fields);
+            encoding::put_old(out, reading.tasks.fields);
             answer(outcome, size)
         }
     }

@@ -85,7 +85,7 @@ bytes-append : (xs ys : List ℕ) → bytesOfAll (xs ++ ys) ≡ bytesOfAll xs ++
 bytes-append [] ys = refl
 bytes-append (x ∷ xs) ys = ap (λ l. bytesOf x ++ l) (bytes-append xs ys)
 
--- The steps of `put_words` and `put_bytes`: after k turns the first k entries of the row are there.
+-- The steps of `put_words` and `put_bytes` (`packing`): after k turns the first k entries of the row are there.
 module _ (row : List ℕ) (k : ℕ) (h : k < length row) where
   front-next : take (k + 1) row ≡ take k row ++ getD row k 0 ∷ []
   front-next = rw add-one (take-suc row k 0 h)

@@ -1,9 +1,0 @@
--- The test is the definition.
-use Rattle.placing.specs.Tests.{barredAt}
-use borrow.Author.Needs.{needs}
-use Rattle.placing.proofs.is_barred.Statement.{statement}
-use Rattle.placing.proofs.is_barred.Tie as tie
-
-pub is-barred-spec : {M : Type 1} → statement M
-unfolding barredAt
-is-barred-spec = tie.close (tie.spec (λ c. search needs) (λ c κs. search needs) (λ c κs. search needs) (λ c. rw (← c .before .byte .ensures, ← c .allows .ensures)))
