@@ -10,7 +10,7 @@ use Rattle.refusal.specs.declared.Outcome.the-variants as outcome
 use Rattle.fields.specs.declared.Fields.{Fields}
 use Rattle.taskset.specs.declared.TaskSet.{TaskSet}
 use Rattle.taskset.specs.declared.Reading.{Reading}
-use Rattle.planning.specs.Order.{planningOrder}
+use Rattle.ordering.specs.Order.{planningOrder}
 use Rattle.planner.specs.Plan.{verdictOutcome}
 use Rattle.planner.specs.declared.Allocation.{Allocation}
 use Rattle.quick.specs.declared.QuickPlan.{QuickPlan}

@@ -5,8 +5,9 @@ use mathlib.Core.List.{List}
 use lib.ListN.{getD}
 use native.Mathlib.Omega.{arith}
 use Rattle.taskset.specs.declared.TaskSet.{TaskSet}
-use Rattle.planning.specs.Order.{planningOrder, Listed}
-use Rattle.planning.proofs.OrderLaws.{planning-is}
+use Rattle.ordering.specs.Order.{planningOrder}
+use Rattle.ordering.proofs.OrderLaws.{planning-is}
+use Rattle.planning.specs.Listed.{Listed}
 use Rattle.planning.proofs.ListedLaws.{listed-below}
 
 pub order-listed : (t : TaskSet) {o : List ℕ} → t .fields .n ≤ 16 → o ≡ planningOrder t → Listed o (t .fields .n)

@@ -11,7 +11,7 @@ use Rattle.refusal.specs.declared.Outcome.{Outcome}
 use Rattle.fields.specs.declared.Fields.{Fields}
 use Rattle.taskset.specs.declared.TaskSet.{TaskSet}
 use Rattle.taskset.specs.declared.Reading.{Reading}
-use Rattle.planning.specs.Order.{planningOrder}
+use Rattle.ordering.specs.Order.{planningOrder}
 use Rattle.planner.specs.Plan.{verdictOutcome}
 use Rattle.planner.specs.declared.Allocation.{Allocation}
 use Rattle.planner.specs.declared.Verdict.{Verdict}

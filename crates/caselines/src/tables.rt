@@ -1,7 +1,7 @@
 // Code 1: what the reader says of a table, with the planning order. Block: the table, up to 1,024 bytes.
 ghost use mathlib.Core.Path.{_≡_};
 ghost use Prim.Native.Nat.{_+_, _≤_, _<_};
-ghost use Rattle.planning.specs.Order.{Listed};
+ghost use Rattle.planning.specs.Listed.{Listed};
 ghost use Rattle.text.specs.Shown.{shown, Appended};
 ghost use Rattle.caselines.specs.Lines.{sizeFields, taskNumbers, taskFields, tableLine};
 use crate::lines;
@@ -47,7 +47,7 @@ fn append_tasks(text: Text, t: TaskSet) -> Text
     let periods = t.fields.periods;
     let budgets = t.fields.budgets;
     let demands = t.demands;
-    let order = planning::planning_order(t);
+    let order = ordering::planning_order(t);
     let numbers = order_numbers(order, t.fields.n);
     let p = lines::append_row(text, periods);
     let b = lines::append_row(p, budgets);

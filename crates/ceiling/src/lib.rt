@@ -21,7 +21,7 @@ fn ceiling_of(t: TaskSet) -> u64
     ensures { λ r. ⌜ r ≡ stepCeiling (t .fields) ⌝ }
 {
     let n = t.fields.n;
-    let order = planning::planning_order(t);
+    let order = ordering::planning_order(t);
     let prepared = planning::prepare(t, order);
     let permitted = prepared.affinity;
     let tied = products::some_tied(permitted, n, t.fields.m);

@@ -21,8 +21,8 @@ use Rattle.allocation.specs.Placement.{Problem, problemOf, load, rejected}
 use Rattle.allocation.specs.Walk.{fits}
 use Rattle.allocation.specs.FirstFit.{lowestFit, fitFrom, firstFit}
 use Rattle.allocation.proofs.FirstFit.{next-le}
-use Rattle.branch.specs.Entry.{onCore}
-use Rattle.branch.proofs.OneCore.{row-changed}
+use Rattle.blend.specs.Entry.{onCore}
+use Rattle.blend.proofs.OneCore.{row-changed}
 use Rattle.walk.specs.Given.{Ranges, foundOf}
 use Rattle.walk.specs.declared.Found.{Found}
 use Rattle.firstfit.specs.Fit.{holds, fitAnswer}

@@ -36,9 +36,9 @@ pub fn first_fit(demands: [u32; 16], affinity: [u8; 16], n: usize, m: usize, h: 
         let d = demands[k];
         let core = lowest_core(loads, affinity[k], d, m, h);
         let choice = core as u32;
-        let more = branch::with_more(loads, choice, d);
+        let more = blend::with_more(loads, choice, d);
         let next = numbers::with_byte(placement, k, core as u8);
-        rejected += branch::pick(choice, 0, d, 0);
+        rejected += blend::pick(choice, 0, d, 0);
         loads = more;
         placement = next;
         k += 1;

@@ -24,7 +24,7 @@ use Rattle.newform.specs.Form.{newFields, newBytes}
 use Rattle.newform.specs.Limits.{newOutcome, new}
 use Rattle.storing.specs.Lent.{transferBy, exitBy, transferAfter, exitAfter}
 use Rattle.transfer.specs.Tables.{written, otherByte, returned}
-use Rattle.planning.specs.Order.{precedes}
+use Rattle.ordering.specs.Order.{precedes}
 use Rattle.allocation.specs.Rule.{twins, isEmpty, someEmptyTwin, tried}
 use Rattle.allocation.specs.Walk.{upFrom, choices, stepInto, storedAfter, boundAfter, entered, tryAll, visit, trace, stored, answer}
 use Rattle.allocation.specs.TableOrder.{tableAnswer}

@@ -73,7 +73,7 @@ pub fn plan_tasks(t: TaskSet, limit: u32) -> Allocation
     ensures { λ r. ⌜ r ≡ planFor (t .fields) limit ⌝ }
 {
     let n = t.fields.n;
-    let order = planning::planning_order(t);
+    let order = ordering::planning_order(t);
     let prepared = planning::prepare(t, order);
     let demands = prepared.demands;
     let permitted = prepared.affinity;

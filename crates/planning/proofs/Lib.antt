@@ -1,4 +1,2 @@
-pub mod PlainOrder
-pub mod OrderLaws
 pub mod ListedLaws
 pub mod PreparedLaws

@@ -8,7 +8,7 @@ use Rattle.fields.specs.Hyperperiod.{hyperperiodOf}
 use Rattle.taskset.specs.Demands.{demandOf}
 use Rattle.taskset.specs.Reading.{taskSetOf}
 use Rattle.fields.specs.declared.Fields.{Fields}
-use Rattle.planning.specs.Order.{precedes}
+use Rattle.ordering.specs.Order.{precedes}
 use Rattle.allocation.specs.Placement.{Problem, problemOf}
 
 -- the tasks' demands and core bytes, on cores that each hold one hyperperiod

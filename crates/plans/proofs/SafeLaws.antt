@@ -21,8 +21,8 @@ use Rattle.fields.proofs.HyperperiodLaws.{hyperperiod-is}
 use Rattle.taskset.proofs.DemandLaws.{demand-exact, demand-range}
 use Rattle.fields.specs.declared.Fields.{Fields}
 use Rattle.planning.specs.Problem.{tableProblem, orderOf}
-use Rattle.planning.proofs.PlainOrder.{in-order}
-use Rattle.planning.proofs.OrderLaws.{sorted-is}
+use Rattle.ordering.proofs.PlainOrder.{in-order}
+use Rattle.ordering.proofs.OrderLaws.{sorted-is}
 use Rattle.allocation.specs.Placement.{Feasible, load, rejected}
 use Rattle.plans.specs.Safe.{choicesOf, ExactDemands, Safe, StatedOrder}
 

@@ -12,7 +12,7 @@ use Rattle.fields.specs.Fields.{periodAt, budgetAt, affinityAt}
 use Rattle.fields.specs.Hyperperiod.{hyperperiodOf}
 use Rattle.taskset.specs.Demands.{loadOn}
 use Rattle.fields.specs.declared.Fields.{Fields}
-use Rattle.planning.specs.Order.{InOrder}
+use Rattle.ordering.specs.Order.{InOrder}
 use Rattle.planning.specs.Problem.{tableProblem, orderOf}
 use Rattle.allocation.specs.Placement.{Feasible}
 

@@ -34,7 +34,7 @@ pub fn quick_tasks(t: TaskSet) -> QuickPlan
     ensures { λ r. ⌜ r ≡ quickFor (t .fields) ⌝ }
 {
     let n = t.fields.n;
-    let order = planning::planning_order(t);
+    let order = ordering::planning_order(t);
     let prepared = planning::prepare(t, order);
     let demands = prepared.demands;
     let permitted = prepared.affinity;

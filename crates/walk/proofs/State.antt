@@ -21,8 +21,8 @@ use Rattle.allocation.proofs.Order.{choice-core, choice-le, tried-by-le}
 use Rattle.allocation.proofs.Sound.{entered-rejects}
 use Rattle.allocation.proofs.Progress.{Progress, progress-start, progress-skip, progress-leaf, progress-descend, progress-back, progress-stop, progress-done, progress-over, progress-closed, progress-take}
 use Rattle.numbers.specs.Rows.{padded}
-use Rattle.branch.specs.Entry.{onCore}
-use Rattle.branch.proofs.OneCore.{row-changed}
+use Rattle.blend.specs.Entry.{onCore}
+use Rattle.blend.proofs.OneCore.{row-changed}
 use Rattle.walk.specs.Given.{foundOf}
 use Rattle.walk.specs.declared.Found.{Found}
 use Rattle.numbers.proofs.ZeroLaws.{take-zeros, drop-zeros, zero-at}

@@ -68,8 +68,8 @@ pub fn walk(
                 }
                 depth -= 1;
                 let last = path[depth] as u32;
-                loads = branch::with_less(loads, last, demands[depth]);
-                out -= branch::pick(last, 0, demands[depth], 0);
+                loads = blend::with_less(loads, last, demands[depth]);
+                out -= blend::pick(last, 0, demands[depth], 0);
                 next = branch::resume(m, last, out, bound);
                 break 'choices;
             }
@@ -79,17 +79,17 @@ pub fn walk(
                 break 'tasks;
             }
             steps += 1;
-            path = branch::with_choice(path, (depth % 256) as u8, c as u8);
+            path = blend::with_choice(path, (depth % 256) as u8, c as u8);
             if depth < deepest {
-                loads = branch::with_more(loads, c, demands[depth]);
-                out += branch::pick(c, 0, demands[depth], 0);
+                loads = blend::with_more(loads, c, demands[depth]);
+                out += blend::pick(c, 0, demands[depth], 0);
                 depth += 1;
                 next = 0;
                 break 'choices;
             }
             // The last task's choice completes a placement.
             best = path;
-            rejected = out + branch::pick(c, 0, demands[depth], 0);
+            rejected = out + blend::pick(c, 0, demands[depth], 0);
             bound = rejected;
             // No placement rejects less than the excess: nothing is entered any more.
             if bound <= excess {

@@ -10,7 +10,7 @@ use mathlib.Core.Logic.{dite}
 use lib.Dec.{eqb}
 use lib.ListN.{getD}
 use borrow.Author.Needs.{needs}
-use Rattle.branch.specs.Entry.{someZeroTwin}
+use Rattle.branch.specs.EmptyTwin.{someZeroTwin}
 use Rattle.branch.proofs.some_empty_twin.Statement.{statement}
 use Rattle.branch.proofs.some_empty_twin.Tie as tie
 

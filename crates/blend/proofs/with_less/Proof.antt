@@ -2,9 +2,9 @@
 use Prim.Native.Nat.{_-_}
 use native.Mathlib.Nat.{sub-zero}
 use borrow.Author.Needs.{needs}
-use Rattle.branch.proofs.OneCore.{OnCores, cores-start, cores-next, cores-done, cores-less}
-use Rattle.branch.proofs.with_less.Statement.{statement}
-use Rattle.branch.proofs.with_less.Tie as tie
+use Rattle.blend.proofs.OneCore.{OnCores, cores-start, cores-next, cores-done, cores-less}
+use Rattle.blend.proofs.with_less.Statement.{statement}
+use Rattle.blend.proofs.with_less.Tie as tie
 
 abbrev Inv-loop : tie.InvT-loop
 Inv-loop c d loads₀ k₀ loads k = OnCores _-_ loads₀ c d loads k

@@ -9,8 +9,8 @@ use mathlib.Core.List.{List, _∷_}
 use lib.Dec.{eqb}
 use lib.ListN.{getD, set, drop}
 use borrow.Author.Tests.{ne-eqb}
-use Rattle.branch.specs.Entry.{onCore}
-use Rattle.branch.proofs.OneEntry.{Changing, change-start, change-by, change-done, room-more, room-less}
+use Rattle.blend.specs.Entry.{onCore}
+use Rattle.blend.proofs.OneEntry.{Changing, change-start, change-by, change-done, room-more, room-less}
 
 -- the loop has come to entry k of the loads
 abbrev pub OnCores : (ℕ → ℕ → ℕ) → List ℕ → ℕ → ℕ → List ℕ → ℕ → Type 0
