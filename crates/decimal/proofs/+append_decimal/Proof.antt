@@ -32,5 +32,9 @@ claims t = (
 pub +append-decimal-spec : {M : Type 1} → statement M
 +append-decimal-spec =
     close μ (λ t. lts.spec (claims t) (given t) append-decimal.Post (λ c κs. search needs) (λ c κs. search needs)
-    (λ c. search (needs, number-one)) (λ c κs. search needs) (λ c κs. search needs) (λ c κs. search needs)
-    (λ c. search (needs, number-more)))
+    (λ c. let start = c .before .before .before in
+    number-one (start .args .x) (search needs) (c .before .digit .ensures) (c .before .before .if1 .taken) (c .append-byte .ensures))
+    (λ c κs. search needs) (λ c κs. search needs) (λ c κs. search needs)
+    (λ c. let start = c .before .before .before .before in
+    number-more (start .args .x) (search needs) (c .before .digit2 .ensures) (c .before .before .before .if1 .left)
+    (c .before .before .append-decimal .ensures) (c .append-byte2 .ensures)))

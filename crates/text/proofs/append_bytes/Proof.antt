@@ -15,4 +15,4 @@ abbrev μ-loop : tie.MeasureT-loop
 pub append-bytes-spec : {M : Type 1} → statement M
 append-bytes-spec =
     tie.close (tie.spec Inv-loop μ-loop (λ c. search (needs, spell-start)) (λ c. search needs) (λ c κs. search needs)
-    (λ c. search needs) (λ c. search needs) (λ c. search (needs, spell-next)) (λ c. search (needs, spell-done)))
+    (λ c. search needs) (λ c. search needs) (λ c. spell-next (c .before .before .before .loop .inv) (c .before .before .loop-test .taken) (c .append-byte .ensures)) (λ c. search (needs, spell-done)))
