@@ -106,7 +106,7 @@ module _ {charge : ℕ} {requests : List ℕ} {slots now : List Slot} {i to late
         let empty : after ≡ emptySlot = rw e refl in
         pass-slot
         (en ∙ rw (empty, ← e, ← a .untouched i (omega arith)) (sym (set-getD now i emptySlot)))
-        (el ∙ rw (e, and-false) refl)
+        (el ∙ rw (e, and-false (eqb late 0)) refl)
         (ec ∙ rw empty refl)
     | inr u ↦ absurd (omega (arith, u .period-in, rw (read d) at z))
   ]

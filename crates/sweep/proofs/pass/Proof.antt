@@ -1,7 +1,7 @@
 -- What holds after each slot of a part of the pass: an empty slot, one that is due, and one that is not.
 use Prim.Native.Nat.{_+_, _-_}
 use mathlib.Core.Path.{_≡_, _∙_}
-use mathlib.Core.Logic.{⊎-elim}
+use mathlib.Core.Logic.{inl, inr}
 use lib.ListN.{set}
 use Rattle.slots.specs.SoFar.{choiceSoFar}
 use Rattle.sweep.proofs.SweepLaws.{Still, still-more, pass-empty, pass-cost, pass-due, pass-kept, pass-done}
@@ -28,15 +28,16 @@ loop-again : tie.Need-loop-again Inv-loop μ-loop
 loop-again c =
     let now = c .before .before .before .before .loop in
     let h = c .before .before .before .loop-test .taken in
-    still-more (now .inv) (λ slots p. ⊎-elim
-    (λ m. let next : c .if1 .next ≡ set (now .next) (now .done) (m .4 .result) = m .7 in
-    let choice : c .if1 .choice ≡ choiceSoFar (now .choice) (now .done + 1) (m .2 .ready) = m .6 ∙ m .3 .ensures in
-    ⊎-elim
-    (λ n. pass-due p h _ (m .0 .taken) next (m .4 .ensures) choice (n .0 .taken) (n .4 ∙ n .2 .ensures) (m .5 ∙ n .3 ∙ n .1 .ensures))
-    (λ n. pass-kept p h _ (m .0 .taken) next (m .4 .ensures) choice (n .0 .left) (n .2) (m .5 ∙ n .1))
-    (m .2 .came))
-    (λ m. pass-empty p h _ (m .0 .left) (m .3) (m .1) (m .2))
-    (c .if1 .came))
+    still-more (now .inv) (λ slots p. elim (c .if1 .came) [
+      | inl m ↦
+          let next : c .if1 .next ≡ set (now .next) (now .done) (m .4 .result) = m .7 in
+          let choice : c .if1 .choice ≡ choiceSoFar (now .choice) (now .done + 1) (m .2 .ready) = m .6 ∙ m .3 .ensures in
+          elim (m .2 .came) [
+            | inl n ↦ pass-due p h _ (m .0 .taken) next (m .4 .ensures) choice (n .0 .taken) (n .4 ∙ n .2 .ensures) (m .5 ∙ n .3 ∙ n .1 .ensures)
+            | inr n ↦ pass-kept p h _ (m .0 .taken) next (m .4 .ensures) choice (n .0 .left) (n .2) (m .5 ∙ n .1)
+          ]
+      | inr m ↦ pass-empty p h _ (m .0 .left) (m .3) (m .1) (m .2)
+    ])
 
 returns : tie.Need-returns Inv-loop μ-loop
 returns c slots p = pass-done (c .before .loop .inv .each slots p) (c .loop-test .left)

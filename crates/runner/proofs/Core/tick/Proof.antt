@@ -29,13 +29,17 @@ stepped-requires : tie.Need-stepped-requires
 stepped-requires c κs =
     record-valid _ _ (omega (arith, c .before .before .before .if1 .left)) refl (eqb-true _ 0 (sym (c .before .all-can-be .ensures) ∙ c .if2 .taken))
 
--- a refused tick is not accepted
-refusal : (core : Core) (requests : List ℕ) (slot : ℕ) {r : Ticked} → r ≡ record { core = core; run = 0; late = 0; outcome = Refused (WrongSlot slot) }
-    → refusedTick (core .charge) (core .slots) slot ≡ tick (core .charge) (core .slots) requests
-    → (tickAnswer r ≡ tick (core .charge) (core .slots) requests)
+-- all that is promised of a tick
+abbrev Answered : Core → List ℕ → Ticked → Type 0
+Answered core requests r =
+    (tickAnswer r ≡ tick (core .charge) (core .slots) requests)
     × (Decides (ValidRecord (core .charge) (core .slots)) (recordConditions (core .charge) (core .slots)) (r .outcome)
     × ((r .outcome ≡ Accepted → PlainTick (core .charge) (core .slots) requests r)
     × (r .outcome ≢ Accepted → PlainRefusal core r)))
+
+-- a refused tick is not accepted,
+refusal : (core : Core) (requests : List ℕ) (slot : ℕ) {r : Ticked} → r ≡ record { core = core; run = 0; late = 0; outcome = Refused (WrongSlot slot) }
+    → refusedTick (core .charge) (core .slots) slot ≡ tick (core .charge) (core .slots) requests → Answered core requests r
 refusal core requests slot {r} same is =
     let answer = refused-by core slot same ∙ is in
     answer
@@ -43,10 +47,14 @@ refusal core requests slot {r} same is =
     also (λ e. absurd (accepted≢refused e (λ i. same i .outcome)))
     also (λ n. record { unchanged = λ i. same i .core; runs-none = λ i. same i .run; late-none = λ i. same i .late })
 
+-- and an accepted one not refused
+acceptance : (core : Core) (requests : List ℕ) {r : Ticked} → tickAnswer r ≡ tick (core .charge) (core .slots) requests
+    → PlainTick (core .charge) (core .slots) requests r → r .outcome ≡ Accepted → Answered core requests r
+acceptance core requests {r} answer plain accepted = answer also (answer-decides core requests r answer) also (λ e. plain) also (λ n. absurd (n accepted))
+
 returns : tie.Need-returns
 returns c = refusal _ _ _ (c .refused .ensures) (tick-overcharged _ _ _ (omega (arith, c .before .if1 .taken)))
 
--- and an accepted one not refused
 returns-2 : tie.Need-returns-2
 returns-2 c =
     let start = c .before .before .before .before .before in
@@ -54,11 +62,7 @@ returns-2 c =
     let size : length (start .args .self .slots) ≡ 16 = search (needs, good) in
     let small = c .before .before .before .before .if1 .left in
     let none = eqb-true _ 0 (sym (c .before .before .all-can-be .ensures) ∙ c .before .if2 .taken) in
-    let answer = c .stepped .ensures .0 ∙ tick-accepted _ _ _ small refl none in
-    answer
-    also (answer-decides (start .args .self) _ _ answer)
-    also (λ e. plain-stepped _ _ _ _ size (c .stepped .ensures .0))
-    also (λ n. absurd (n (c .stepped .ensures .1)))
+    acceptance _ _ (c .stepped .ensures .0 ∙ tick-accepted _ _ _ small refl none) (plain-stepped _ _ _ _ size (c .stepped .ensures .0)) (c .stepped .ensures .1)
 
 returns-3 : tie.Need-returns-3
 returns-3 c =
