@@ -4,6 +4,9 @@ use borrow.Author.Needs.{needs}
 use Rattle.entries.proofs.is_barred.Statement.{statement}
 use Rattle.entries.proofs.is_barred.Tie as tie
 
-pub is-barred-spec : {M : Type 1} → statement M
+returns : tie.Need-returns
 unfolding barredAt
-is-barred-spec = tie.close (tie.spec (λ c. search needs) (λ c κs. search needs) (λ c κs. search needs) (λ c. rw (← c .before .byte .ensures, ← c .allows .ensures)))
+returns c = rw (c .allows .ensures, c .before .byte .ensures)
+
+pub is-barred-spec : {M : Type 1} → statement M
+is-barred-spec = tie.close (tie.spec (λ c. search needs) (λ c κs. search needs) (λ c κs. search needs) returns)
