@@ -44,32 +44,29 @@ pub fn walk(
     'tasks: loop {
         'choices: loop {
             let mut c = 0u32;
+            let demand = demands[depth];
             if next < m {
-                if !branch::has_room(
-                    affinity[depth],
-                    next,
-                    loads[next as usize],
-                    demands[depth],
-                    h,
-                ) {
+                let load = loads[next as usize];
+                if !branch::has_room(affinity[depth], next, load, demand, h) {
                     next += 1;
                     continue 'choices;
                 }
                 // An empty core is passed over where a lower twin is empty too.
-                if loads[next as usize] == 0 && branch::some_empty_twin(&loads, &twins, next) {
+                if load == 0 && branch::some_empty_twin(&loads, &twins, next) {
                     next += 1;
                     continue 'choices;
                 }
                 c = next + 1;
-            } else if m < next || bound <= out + demands[depth] {
+            } else if m < next || bound <= out + demand {
                 // No choice is left: the walk is complete, or the task before takes its choice back.
                 if depth == 0 {
                     break 'tasks;
                 }
                 depth -= 1;
                 let last = path[depth] as u32;
-                loads = blend::with_less(loads, last, demands[depth]);
-                out -= blend::pick(last, 0, demands[depth], 0);
+                let freed = demands[depth];
+                loads = blend::with_less(loads, last, freed);
+                out -= blend::pick(last, 0, freed, 0);
                 next = branch::resume(m, last, out, bound);
                 break 'choices;
             }
@@ -81,15 +78,15 @@ pub fn walk(
             steps += 1;
             path = blend::with_choice(path, (depth % 256) as u8, c as u8);
             if depth < deepest {
-                loads = blend::with_more(loads, c, demands[depth]);
-                out += blend::pick(c, 0, demands[depth], 0);
+                loads = blend::with_more(loads, c, demand);
+                out += blend::pick(c, 0, demand, 0);
                 depth += 1;
                 next = 0;
                 break 'choices;
             }
             // The last task's choice completes a placement.
             best = path;
-            rejected = out + blend::pick(c, 0, demands[depth], 0);
+            rejected = out + blend::pick(c, 0, demand, 0);
             bound = rejected;
             // No placement rejects less than the excess: nothing is entered any more.
             if bound <= excess {
