@@ -1,5 +1,5 @@
 -- The step ceiling keeps what is promised of it, and is accepted exactly for valid tables.
-use Prim.Native.Nat.{ℕ, pred, _+_, _≤_, _<_, min}
+use Prim.Native.Nat.{ℕ, pred, _+_, _≤_, _<_}
 use native.Mathlib.Nat.{le-trans, le-of-eq}
 use native.Mathlib.Omega.{arith}
 use mathlib.Core.Path.{_≡_, refl, sym, _∙_, ap}

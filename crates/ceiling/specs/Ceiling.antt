@@ -1,5 +1,5 @@
 -- The step ceiling's answer.
-use Prim.Native.Nat.{ℕ, pred}
+use Prim.Native.Nat.{ℕ}
 use mathlib.Core.List.{List}
 use Rattle.numbers.specs.Reorder.{gather}
 use Rattle.numbers.specs.Rows.{tab}

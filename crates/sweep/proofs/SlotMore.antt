@@ -7,7 +7,7 @@ use mathlib.Core.List.{List, [], _∷_, _++_, append-nil}
 use native.Mathlib.Omega.{arith}
 use native.Mathlib.Nat.{add-zero, add-suc, suc-add}
 use lib.Dec.{ltb, eqb}
-use lib.ListN.{length, getD, length-append, List·getD-append, List·getD-eq-default}
+use lib.ListN.{length, length-append, List·getD-append, List·getD-eq-default}
 use lib.Seq.{getD-append-seam}
 use borrow.Author.Tests.{ne-eqb}
 use Rattle.numbers.specs.First.{first, IsFirst}
