@@ -111,41 +111,31 @@ module _ {J : Job} {L : Locals} (s : Walking J L) where
   held-core = rw (add-one (L .next))
 
   module _ (k : L .next < J .cores) {rows : List Bool} (t : rows ≡ twinRows (J .affinity) (J .tasks)) where
-    tried-is : {e : Bool} → e ≡ someZeroTwin (L .loads) rows (L .next) (L .next)
-        → tried (problem J) node (L .next + 1) ≡ not (eqb (getD (L .loads) (L .next) 0) 0 && e)
+    tried-is : tried (problem J) node (L .next + 1) ≡ not (eqb (getD (L .loads) (L .next) 0) 0 && someZeroTwin (L .loads) rows (L .next) (L .next))
     unfolding tried isEmpty
-    tried-is f =
+    tried-is =
         let four : L .next < 4 = omega (arith, s .fixed .few-cores) in
-        rw (add-one (L .next), s .chosen .loads-are (suc (L .next)), f, some-empty-is t (L .next) four (L .next) (omega arith))
+        rw (add-one (L .next), s .chosen .loads-are (suc (L .next)), some-empty-is t (L .next) four (L .next) (omega arith))
 
     -- core next + 1 is looked at
     module _ {over : ℕ} (ex : over ≡ excess (problem J)) (i : Improving over (J .cores) (L .out) (L .bound) (L .next))
-        {r : Bool} (fits : r ≡ (permitted byte (L .next + 1) && leb (getD (L .loads) (L .next) 0 + demand) (J .capacity))) where
-      core-looked : {t : Bool} → (r && tried (problem J) node (L .next + 1)) ≡ t → Looked J L (L .next + 1) t
+        {r : Bool} (fits : r ≡ ((permitted byte (L .next + 1) && leb (getD (L .loads) (L .next) 0 + demand) (J .capacity))
+        && not (eqb (getD (L .loads) (L .next) 0) 0 && someZeroTwin (L .loads) rows (L .next) (L .next)))) where
+      core-looked : {t : Bool} → r ≡ t → Looked J L (L .next + 1) t
       core-looked e = record {
         state = s;
         within = omega arith;
         choice-is = add-one (L .next) ∙ sym (choice-core (J .cores) (L .next) k);
-        tested = sym (test-is ex (i .excess-below) (L .next + 1) ∙ rw (ne-eqb (L .next + 1) 0 (λ z. omega arith), add-zero, held-core, ← fits, lt-ltb (L .out) (L .bound) (i .out-below (omega arith)), and-true) e);
+        tested = sym (test-is ex (i .excess-below) (L .next + 1) ∙ rw (ne-eqb (L .next + 1) 0 (λ z. omega arith), add-zero, held-core, lt-ltb (L .out) (L .bound) (i .out-below (omega arith)), and-true, tried-is) (sym fits ∙ e));
       }
 
-      -- it is not permitted, or has no room for the task
-      pub core-unfit : not r ≡ true → Looked J L (L .next + 1) false
-      core-unfit e = core-looked (rw (not-true r e))
+      -- it is not permitted, has no room for the task, or is empty and so is a lower twin
+      pub core-passed : not r ≡ true → Looked J L (L .next + 1) false
+      core-passed e = core-looked (not-true r e)
 
-      module _ (may : not r ≡ false) where
-        -- it is empty, and so is a lower twin
-        pub core-passed : getD (L .loads) (L .next) 0 ≡ 0 → {e : Bool} → e ≡ someZeroTwin (L .loads) rows (L .next) (L .next)
-            → e ≡ true → Looked J L (L .next + 1) false
-        core-passed z f t = core-looked (rw (not-false r may, tried-is f, eq-eqb _ 0 z, t))
-
-        -- it is the lowest empty core of its twins, or not empty
-        pub core-lowest : {e : Bool} → e ≡ someZeroTwin (L .loads) rows (L .next) (L .next)
-            → e ≡ false → Looked J L (L .next + 1) true
-        core-lowest f t = core-looked (rw (not-false r may, tried-is f, t, and-false))
-
-        pub core-used : (getD (L .loads) (L .next) 0 ≡ 0 → ⊥) → Looked J L (L .next + 1) true
-        core-used n = core-looked (rw (not-false r may, tried-is refl, ne-eqb _ 0 n))
+      -- it is entered
+      pub core-taken : not r ≡ false → Looked J L (L .next + 1) true
+      core-taken e = core-looked (not-false r e)
 
   none-tried : tried (problem J) node 0 ≡ true
   unfolding tried someEmptyTwin

@@ -46,13 +46,7 @@ pub fn walk(
             let mut c = 0u32;
             let demand = demands[depth];
             if next < m {
-                let load = loads[next as usize];
-                if !branch::has_room(affinity[depth], next, load, demand, h) {
-                    next += 1;
-                    continue 'choices;
-                }
-                // An empty core is passed over where a lower twin is empty too.
-                if load == 0 && branch::some_empty_twin(&loads, &twins, next) {
+                if !branch::is_tried(affinity[depth], next, &loads, &twins, demand, h) {
                     next += 1;
                     continue 'choices;
                 }
