@@ -158,8 +158,8 @@ unfolding field
 field-part {bytes} x p =
     let n = number-part x in
     record {
-      no-feed = lacks-append 10 bytes (32 ∷ decimal x) (p .no-feed) (n .no-feed);
       reads = ap (map item) (pieces-split 32 bytes (decimal x)) ∙ map-append item (pieces 32 bytes) (pieces 32 (decimal x)) ∙ ap₂ _++_ (p .reads) (n .reads);
+      no-feed = lacks-append 10 bytes (32 ∷ decimal x) (p .no-feed) (n .no-feed);
     }
 
 -- the bytes of a whole line, before any others
