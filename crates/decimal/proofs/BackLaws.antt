@@ -135,8 +135,8 @@ number-read x = let s = spelt x in rw (s .is, s .value)
 
 -- bytes of one line, and what they are read as
 pub record Part (bytes : List ℕ) (items : List Item) : Type 0 where
-  no-feed : lacks 10 bytes ≡ true
   reads : readLine bytes ≡ items
+  no-feed : lacks 10 bytes ≡ true
 
 -- letters that are no number
 pub word-part : (letters : List ℕ) → lacks 10 letters ≡ true → lacks 32 letters ≡ true → isNumber letters ≡ false → Part letters (word letters ∷ [])
