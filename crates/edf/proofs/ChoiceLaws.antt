@@ -109,7 +109,7 @@ module _ (charge : ℕ) where
   pub run-active : (j k : ℕ) (s : Slot) → Active charge s → Active charge (run j k s)
   run-active j k s a = cond-both (Active charge) (eqb k j) (ran s) s (elim a [
     | inl m ↦ inl (ap ran m)
-    | inr w ↦ inr (w .0, in-use charge (s .until - 1) (s .remaining - 1) (w .1) (w .1 .until-in) (omega arith))
+    | inr w ↦ inr (w .0, in-use charge (s .until - 1) _ (w .1) (w .1 .until-in) (omega (arith, w .1 .remaining-in)))
   ]) a
 
   -- The tick goes to the earliest deadline: the demand at each horizon y + 1 falls to y.

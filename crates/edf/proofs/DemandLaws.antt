@@ -126,7 +126,7 @@ module _ (charge : ℕ) where
     release-active f =
         release-cases Active f inl
         (λ w h. inr (h, in-use (s .until - 1) (s .remaining) w (omega arith) (w .remaining-in)))
-        (λ w z. inr (w .period-in .0, in-use (s .period - 1) _ w (omega arith) (owed-most charge (s .budget) _)))
+        (λ w z. inr (omega (arith, w .period-in .0), in-use (s .period - 1) _ w (omega arith) (owed-most charge (s .budget) _)))
 
     -- A release never adds to the demand.
     pub release-demand : (x : ℕ) → CanBe charge s → demandBound x (release charge requests k s) ≤ demandBound x s
