@@ -1,0 +1,4 @@
+pub mod CircleLaws
+pub mod OrderLaws
+pub mod ReadyLaws
+pub mod SequenceLaws

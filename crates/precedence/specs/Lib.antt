@@ -1,0 +1,4 @@
+pub mod Paths
+pub mod Order
+pub mod Circles
+pub mod Sequence
