@@ -26,6 +26,9 @@ pub fn number(cause: Cause) -> u32
         Cause::NotPermitted(_) => 16,
         Cause::FirstByte => 17,
         Cause::Filling => 18,
+        Cause::PairList => 19,
+        Cause::Pair(_) => 20,
+        Cause::Circle(_) => 21,
     }
 }
 
@@ -52,5 +55,8 @@ pub fn place(cause: Cause) -> usize
         Cause::NotPermitted(task) => task,
         Cause::FirstByte => 0,
         Cause::Filling => 0,
+        Cause::PairList => 0,
+        Cause::Pair(pair) => pair,
+        Cause::Circle(task) => task,
     }
 }

@@ -4,13 +4,13 @@ use mathlib.Core.Path.{_≡_}
 use mathlib.Core.List.{List, [], _∷_}
 use Rattle.refusal.specs.Causes.{numberOf, placeOf}
 use Rattle.refusal.specs.declared.Cause.{Cause}
-use Rattle.refusal.specs.declared.Cause.the-variants.{TooShort, TaskCount, CoreCount, Length, Period, Budget, Hyperperiod, Buffer, Placement, CoreNumber, Overload, Slot, Charge, Cost, Affinity, NotPermitted, FirstByte, Filling}
+use Rattle.refusal.specs.declared.Cause.the-variants.{TooShort, TaskCount, CoreCount, Length, Period, Budget, Hyperperiod, Buffer, Placement, CoreNumber, Overload, Slot, Charge, Cost, Affinity, NotPermitted, FirstByte, Filling, PairList, Pair, Circle}
 
 -- A row of the table: a cause, its number, its place.
 pub data CauseRow : Type 0 where
   cause : Cause → ℕ → ℕ → CauseRow
 
--- the table, where p is the first such task or slot; 0 where the paper names no place
+-- the table, where p is the first such task, slot or pair; 0 where the paper names no place
 abbrev pub causeTable : ℕ → List CauseRow
 causeTable p =
     cause TooShort 1 0
@@ -31,6 +31,9 @@ causeTable p =
     ∷ cause (NotPermitted p) 16 p
     ∷ cause FirstByte 17 0
     ∷ cause Filling 18 0
+    ∷ cause PairList 19 0
+    ∷ cause (Pair p) 20 p
+    ∷ cause (Circle p) 21 p
     ∷ []
 
 -- Number and place of each row are those that the definitions give its cause.

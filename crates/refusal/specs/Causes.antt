@@ -1,7 +1,7 @@
 -- The paper's number and place of each cause of refusal, and of an outcome.
 use Prim.Native.Nat.{ℕ}
 use Rattle.refusal.specs.declared.Cause.{Cause}
-use Rattle.refusal.specs.declared.Cause.the-variants.{TooShort, TaskCount, CoreCount, Length, Period, Budget, Hyperperiod, Buffer, Placement, CoreNumber, Overload, Slot, Charge, Cost, Affinity, NotPermitted, FirstByte, Filling}
+use Rattle.refusal.specs.declared.Cause.the-variants.{TooShort, TaskCount, CoreCount, Length, Period, Budget, Hyperperiod, Buffer, Placement, CoreNumber, Overload, Slot, Charge, Cost, Affinity, NotPermitted, FirstByte, Filling, PairList, Pair, Circle}
 use Rattle.refusal.specs.declared.Outcome.{Outcome}
 use Rattle.refusal.specs.declared.Outcome.the-variants.{Accepted, Refused}
 
@@ -25,8 +25,11 @@ numberOf (Affinity task) = 15
 numberOf (NotPermitted task) = 16
 numberOf FirstByte = 17
 numberOf Filling = 18
+numberOf PairList = 19
+numberOf (Pair pair) = 20
+numberOf (Circle task) = 21
 
--- its place, the first such task or slot counted from 1; 0 where the paper names none
+-- its place, the first such task, slot or pair counted from 1; 0 where the paper names none
 abbrev pub placeOf : Cause → ℕ
 placeOf TooShort = 0
 placeOf TaskCount = 0
@@ -46,6 +49,9 @@ placeOf (Affinity task) = task
 placeOf (NotPermitted task) = task
 placeOf FirstByte = 0
 placeOf Filling = 0
+placeOf PairList = 0
+placeOf (Pair pair) = pair
+placeOf (Circle task) = task
 
 -- number and place of an outcome: 0 and 0 where the call is accepted
 abbrev pub numberIn : Outcome → ℕ

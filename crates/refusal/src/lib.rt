@@ -2,7 +2,7 @@
 ghost use mathlib.Core.Path.{_≡_};
 ghost use Rattle.refusal.specs.Tests.{_then_, refuseIf, roomTest};
 
-// The paper's causes, with the task or slot where it names one, counted from 1.
+// The paper's causes, with the task, slot or pair where it names one, counted from 1.
 pub enum Cause {
     TooShort,
     TaskCount,
@@ -22,6 +22,9 @@ pub enum Cause {
     NotPermitted(usize),
     FirstByte,
     Filling,
+    PairList,
+    Pair(usize),
+    Circle(usize),
 }
 
 // What a test, or several made in order, say of a call.
