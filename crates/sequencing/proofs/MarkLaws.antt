@@ -10,8 +10,8 @@ use lib.Seq.{getD-set-same, getD-set-other}
 use native.Mathlib.Decide.{ℕ-discrete}
 use native.Mathlib.Omega.{arith}
 use borrow.Author.Tests.{eq-eqb, ne-eqb}
-use Rattle.numbers.specs.First.{first}
 use Rattle.numbers.specs.Rows.{padded}
+use Rattle.numbers.proofs.FirstLaws.{Seeking, looked-found, seek-none}
 use Rattle.numbers.proofs.ZeroLaws.{padded-next}
 use Rattle.precedence.specs.Sequence.{stands, holdsUp, waits, isReady, nextTask, withNext, ordered}
 use Rattle.precedence.proofs.ReadyLaws.{stands-last, next-cong}
@@ -26,13 +26,14 @@ pub holds-up : (f : ℕ → ℕ → Bool) (placed : List Bool) (t k : ℕ) {a b 
 unfolding holdsUp
 holds-up f placed t k p q = let one : k + 1 ≡ suc k = omega arith in rw (p, q, one)
 
-pub waits-found : (f : ℕ → ℕ → Bool) (n : ℕ) (placed : ℕ → Bool) (t k : ℕ) → k + 1 ≡ first (holdsUp f placed t) n → true ≡ waits f n placed t
-unfolding waits
-waits-found f n placed t k e = rw (← e, ne-eqb (k + 1) 0 (λ q. omega arith))
+module _ (f : ℕ → ℕ → Bool) (n : ℕ) (placed : ℕ → Bool) (t k : ℕ) (s : Seeking (holdsUp f placed t) n k) where
+  pub waits-found : {r : Bool} → k < n → r ≡ holdsUp f placed t k → r ≡ true → true ≡ waits f n placed t
+  unfolding waits
+  waits-found h e q = rw (← looked-found s h e q, ne-eqb (k + 1) 0 (λ z. omega arith))
 
-pub waits-none : (f : ℕ → ℕ → Bool) (n : ℕ) (placed : ℕ → Bool) (t : ℕ) → 0 ≡ first (holdsUp f placed t) n → false ≡ waits f n placed t
-unfolding waits
-waits-none f n placed t e = rw (← e)
+  pub waits-none : n ≤ k → false ≡ waits f n placed t
+  unfolding waits
+  waits-none h = rw (← seek-none s h)
 
 -- whether task k + 1 is ready, as the loop has it
 pub ready-here : (f : ℕ → ℕ → Bool) (n : ℕ) (placed : List Bool) (k : ℕ) {a b : Bool} → a ≡ getD placed (k + 1) false → b ≡ waits f n (marked placed) (k + 1)
@@ -81,7 +82,7 @@ place-next {cells} {n} {order} {placed} {i} {t} s h g e b =
     let long : length l ≡ i = ordered-length f n i in
     record {
       top = omega arith;
-      row = rw (one, ← q, s .row) (rw long at (padded-next l t (omega (arith, long))));
+      row = rw (one, ← q) (ap (λ (x : List ℕ). set x i t) (s .row) ∙ ap (λ (k : ℕ). set (padded l) k t) (sym long) ∙ padded-next l t (omega (arith, long)));
       marks = rw (one, ← q) (mark-next t (s .marks) b);
     }
 
