@@ -3,14 +3,14 @@ use Prim.Native.Nat.{ℕ, suc, _≤_}
 use mathlib.Core.Path.{_≡_, refl, sym, _∙_, ap}
 use mathlib.Core.List.{List, [], _∷_, _++_}
 use mathlib.Core.Bool.{Bool, true, true≢false}
-use mathlib.Core.Logic.{inl, inr, ⊎-elim, _↔_}
+use mathlib.Core.Logic.{_⊎_, inl, inr, ⊎-elim, ⊎-map, _↔_}
 use native.Mathlib.Omega.{arith}
 use Rattle.numbers.specs.First.{first}
 use Rattle.numbers.proofs.BoundLaws.{less-exactly, not-less}
 use Rattle.numbers.proofs.FirstLaws.{first-is, first-zero, isFirst-unique, isFirst-map}
 use Rattle.refusal.specs.Causes.{numberOf, placeOf, numberIn, placeIn}
 use Rattle.refusal.specs.Tests.{_then_, refuseIf, refuseAt, roomTest}
-use Rattle.refusal.specs.Conditions.{Condition, only, at, HoldsAt, Fails, None, First, Gives, Decides, Reports, Tested, noRoom}
+use Rattle.refusal.specs.Conditions.{Condition, only, at, numbered, HoldsAt, Fails, None, First, Gives, Decides, Reports, Tested, noRoom}
 use Rattle.refusal.specs.declared.Cause.{Cause}
 use Rattle.refusal.specs.declared.Outcome.{Outcome}
 use Rattle.refusal.specs.declared.Outcome.the-variants.{Accepted, Refused}
@@ -57,6 +57,21 @@ first-front (c ∷ cs) ds k p (inr a) = inr (a .0, first-front cs ds k p (a .1))
 first-behind : (cs ds : List Condition) (k p : ℕ) → None cs → First ds k p → First (cs ++ ds) k p
 first-behind [] ds k p n f = f
 first-behind (c ∷ cs) ds k p n f = inr (n .0, first-behind cs ds k p (n .1) f)
+
+-- the first of both lists is the first of one, or the first of the other where none of the one holds
+pub first-either : (cs ds : List Condition) (k p : ℕ) → First (cs ++ ds) k p → First cs k p ⊎ (None cs × First ds k p)
+first-either [] ds k p f = inr (tt, f)
+first-either (c ∷ cs) ds k p (inl a) = inl (inl a)
+first-either (c ∷ cs) ds k p (inr a) = ⊎-map (λ f. inr (a .0, f)) (λ f. ((a .0, f .0), f .1)) (first-either cs ds k p (a .1))
+
+-- the numbers of a list of conditions are at most this
+abbrev pub NumbersTo : ℕ → List Condition → Type 0
+NumbersTo most [] = Unit {0}
+NumbersTo most (c ∷ cs) = (numbered c ≤ most) × NumbersTo most cs
+
+pub first-to : (most : ℕ) (cs : List Condition) → NumbersTo most cs → (k p : ℕ) → First cs k p → k ≤ most
+first-to most (c ∷ cs) h k p (inl a) = rw (a .0) (h .0)
+first-to most (c ∷ cs) h k p (inr a) = first-to most cs (h .1) k p (a .1)
 
 -- a condition that does not hold where those before it do not can be left out of a list
 module _ (c : Condition) (ds : List Condition) where
