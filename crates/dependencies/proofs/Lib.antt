@@ -1,1 +1,3 @@
 pub mod PromiseLaws
+pub mod SameLaws
+pub mod EmptyLaws

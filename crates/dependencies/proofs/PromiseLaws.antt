@@ -64,17 +64,18 @@ module _ (f : Fields) (list : List ℕ) where
 
 -- ---- a table and a list
 
+-- the answer's outcome is that of the tests
+pub by-outcome : (list : List ℕ) (o : Outcome) (f : Fields) → orderBy list o f .outcome ≡ o
+unfolding orderBy orderFor refusedOrder
+by-outcome list o f = by-says refusedOrder (orderFor list) (λ (r : TaskOrder). r .outcome) (λ c. refl) (λ f. refl) o f
+
 module _ {t : Table} (s : Sound t) (below : (number place : ℕ) → First (t .conditions) number place → number ≤ 18) (list : List ℕ) where
   pub fed-sound : Sound (fedBy t list)
   fed-sound = also-sound s (list-accepts (t .fields) list)
 
-  by-outcome : (o : Outcome) → orderBy list o (t .fields) .outcome ≡ o
-  unfolding orderBy orderFor refusedOrder
-  by-outcome o = by-says refusedOrder (orderFor list) (λ (r : TaskOrder). r .outcome) (λ c. refl) (λ f. refl) o (t .fields)
-
   order-decided : {r : TaskOrder} → r ≡ orderOf t list → Decided (fedBy t list) (r .outcome)
   unfolding orderOf
-  order-decided e = rw (e, by-outcome) (decides (fed-sound .tested))
+  order-decided e = rw (e, by-outcome list) (decides (fed-sound .tested))
 
   refused-promise : (c : Cause) → fedBy t list .outcome ≡ Refused c → Promise t list (refusedOrder c)
   unfolding refusedOrder

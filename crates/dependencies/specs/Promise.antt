@@ -25,6 +25,11 @@ pub record Promise (t : Table) (list : List ℕ) (r : TaskOrder) : Type 0 where
   -- A refused list has sixteen zeros.
   pub refused : numberIn (r .outcome) ≢ 0 → r .order ≡ replicate 16 0
 
--- Two lists whose pairs are the same, in any order and given any number of times.
+-- Two lists with the same pairs, in any order and each given any number of times.
 abbrev pub SamePairs : List ℕ → List ℕ → Type 0
 SamePairs list other = (a b : ℕ) → Feeds list a b ↔ Feeds other a b
+
+-- The list is refused by neither 19 nor 20.
+pub record Named (r : TaskOrder) : Type 0 where
+  pub formed : numberIn (r .outcome) ≢ 19
+  pub fit : numberIn (r .outcome) ≢ 20

@@ -16,7 +16,7 @@ use refusal::Outcome;
 // The answer: the numbers of the tasks in their order, and zeros up to sixteen; sixteen zeros beside a refusal.
 pub struct TaskOrder {
     pub outcome: Outcome,
-    pub order: [usize; MOST_TASKS],
+    pub order: [u8; MOST_TASKS],
 }
 
 // A refusal, with sixteen zeros beside its cause.

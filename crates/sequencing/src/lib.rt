@@ -37,16 +37,16 @@ fn next_task(cells: &[bool; 289], placed: &[bool; 17], n: usize) -> usize
 }
 
 // The order of the tasks 1 to `n`, each after those that feed it, the lowest ready number first; zeros up to sixteen.
-pub fn task_order(cells: [bool; 289], n: usize) -> [usize; 16]
+pub fn task_order(cells: [bool; 289], n: usize) -> [u8; 16]
     requires { ⌜ n ≤ 16 ⌝ }
     ensures { λ r. ⌜ r ≡ padded (ordered (edge cells) n n) ⌝ }
 {
-    let mut order = [0usize; 16];
+    let mut order = [0u8; 16];
     let mut placed = [false; 17];
     let mut i: usize = 0;
     while i < n {
         let t = next_task(&cells, &placed, n);
-        order[i] = t;
+        order[i] = t as u8;
         placed[t] = true;
         i += 1;
     }
