@@ -27,7 +27,8 @@ use Rattle.precedence.specs.Order.{IsOrder}
 use Rattle.precedence.specs.Sequence.{ordered}
 use Rattle.precedence.proofs.CircleLaws.{first-lowest}
 use Rattle.precedence.proofs.OrderLaws.{order-unique}
-use Rattle.precedence.proofs.SequenceLaws.{ordered-is, ordered-cong, ordered-length}
+use Rattle.precedence.proofs.SequenceLaws.{ordered-is, ordered-length}
+use Rattle.precedence.proofs.WidthLaws.{ordered-cong}
 use Rattle.relation.specs.Cells.{edge, Cells}
 use Rattle.pairs.specs.Pairs.{feeds}
 use Rattle.pairs.specs.Fit.{Feeds}
@@ -137,5 +138,5 @@ module _ (f : Fields) (list : List ℕ) {o : Outcome} (p : o ≡ inOrder (listTe
       → record { outcome = Accepted; order = order } ≡ orderBy list (inOrder (listTests f list)) f
   unfolding orderBy orderFor
   order-yes {cells} q few s h =
-      ap (λ x. record { outcome = Accepted; order = x }) (h ∙ ap padded (ordered-cong (edge cells) (f .n) (feeds list) 17 (omega arith) (s .at) (f .n)))
+      ap (λ x. record { outcome = Accepted; order = x }) (h ∙ ap padded (ordered-cong (edge cells) (feeds list) 17 (s .at) (f .n) (omega arith) (f .n)))
       ∙ sym (by-accepted refusedOrder (orderFor list) f (sym p ∙ q))

@@ -20,8 +20,7 @@ use Rattle.fields.specs.declared.Fields.{Fields}
 use Rattle.taskset.specs.Table.{Table}
 use Rattle.precedence.specs.Circles.{circular}
 use Rattle.precedence.specs.Sequence.{ordered}
-use Rattle.precedence.proofs.CircleLaws.{reach-cong}
-use Rattle.precedence.proofs.SequenceLaws.{ordered-cong}
+use Rattle.precedence.proofs.WidthLaws.{reach-cong, ordered-cong}
 use Rattle.pairs.specs.Pairs.{pairCount, malformed, feeds, listTest}
 use Rattle.pairs.proofs.FitLaws.{feeds-exactly}
 use Rattle.feeding.specs.Tests.{unfitAt, pairsTest, circleTest, listTests}
@@ -64,7 +63,7 @@ module _ (f : Fields) (list other : List ℕ) (same : SamePairs list other) wher
   unfolding orderFor
   order-same =
       ap (λ (l : List ℕ). record { outcome = Accepted; order = padded l })
-      (ordered-cong (feeds list) (f .n) (feeds other) (suc (f .n)) (omega arith) (λ a b x y. feeds-same a b) (f .n))
+      (ordered-cong (feeds list) (feeds other) (suc (f .n)) (λ a b x y. feeds-same a b) (f .n) (omega arith) (f .n))
 
 -- a list that neither 19 nor 20 refuses is tested for circles
 tests-are : (f : Fields) (list : List ℕ) → numberIn (inOrder (listTests f list)) ≢ 19 → numberIn (inOrder (listTests f list)) ≢ 20 → inOrder (listTests f list) ≡ circleTest f list then Accepted

@@ -16,7 +16,8 @@ use Rattle.refusal.proofs.ConditionLaws.{then-reports, test-at, no-more}
 use Rattle.fields.specs.declared.Fields.{Fields}
 use Rattle.precedence.specs.Paths.{Task, OnCircle}
 use Rattle.precedence.specs.Circles.{circular}
-use Rattle.precedence.proofs.CircleLaws.{circular-exactly, reach-cong, path-task}
+use Rattle.precedence.proofs.CircleLaws.{circular-exactly, path-task}
+use Rattle.precedence.proofs.WidthLaws.{reach-cong}
 use Rattle.relation.specs.Cells.{edge, Cells, withPair}
 use Rattle.relation.proofs.CellLaws.{cells-none}
 use Rattle.pairs.specs.Pairs.{pairCount, feeding, fed, unfit, saidBy, feeds}

@@ -46,7 +46,7 @@ module _ (f : ℕ → ℕ → Bool) where
   pub reach-feeds : (n a b : ℕ) → f a b ≡ true → reach f n a b ≡ true
   unfolding reach
   reach-feeds zero a b h = h
-  reach-feeds (suc n) a b h = through-old (reach f n) (suc n) a b (reach-feeds n a b h)
+  reach-feeds (suc n) a b h = through-old (reach f n) _ a b (reach-feeds n a b h)
 
   -- two ways that meet at one of the tasks 1 to n
   pub reach-joins : (n m : ℕ) → Task n m → (a b : ℕ) → reach f n a m ≡ true → reach f n m b ≡ true → reach f n a b ≡ true
@@ -56,15 +56,6 @@ module _ (f : ℕ → ℕ → Bool) where
       by-cases (ℕ-discrete m (suc n))
       (λ e. through-here (reach f n) (suc n) a b (rw e at h) (rw e at g))
       (λ d. through-joins (reach f n) (suc n) m (reach-joins n m (record { least = t .least; most = omega (arith, t .most) })) a b h g)
-
-  -- equal relations have the same closure
-  pub reach-cong : (g : ℕ → ℕ → Bool) (w : ℕ) → ((a b : ℕ) → a < w → b < w → f a b ≡ g a b) → (n : ℕ) → n < w
-      → (a b : ℕ) → a < w → b < w → reach f n a b ≡ reach g n a b
-  unfolding reach through
-  reach-cong g w h zero l a b x y = h a b x y
-  reach-cong g w h (suc n) l a b x y =
-      let ih = reach-cong g w h n (omega arith) in
-      rw (ih a b x y, ih a (suc n) x l, ih (suc n) b l y)
 
 -- ---- paths
 

@@ -11,10 +11,10 @@ use borrow.Author.Tests.{eq-eqb, eqb-true, ne-eqb, not-true, not-false}
 use Rattle.numbers.specs.First.{first}
 use Rattle.numbers.proofs.BoolLaws.{true-or-false, or-cases, and-left, and-right, and-intro}
 use Rattle.numbers.proofs.BoundLaws.{not-unequal}
-use Rattle.numbers.proofs.FirstLaws.{first-zero, first-clear, first-cong}
+use Rattle.numbers.proofs.FirstLaws.{first-zero, first-clear}
 use Rattle.precedence.specs.Paths.{Task, AmongTasks}
 use Rattle.precedence.specs.Order.{Stands, Ready}
-use Rattle.precedence.specs.Sequence.{stands, holdsUp, waits, isReady, nextTask}
+use Rattle.precedence.specs.Sequence.{stands, holdsUp, waits, isReady}
 
 -- ---- what stands in a list
 
@@ -41,24 +41,6 @@ at-stands (x ∷ l) (suc j) h = rw (at-stands l j (omega arith), or-true)
 
 pub stands-exactly : (l : List ℕ) (t : ℕ) → (stands l t ≡ true) ↔ Stands l (length l) t
 stands-exactly l t = (stands-at l t, λ s. rw (s .2) at (at-stands l (s .0) (s .1)))
-
--- ---- what is ready depends on the relation and on what stands, for tasks 1 to n
-
-module _ (f g : ℕ → ℕ → Bool) (w n : ℕ) (few : n < w) (same : (a b : ℕ) → a < w → b < w → f a b ≡ g a b)
-    (p q : ℕ → Bool) (alike : (t : ℕ) → t < w → p t ≡ q t) where
-  ready-cong : (k : ℕ) → k < n → isReady f n p k ≡ isReady g n q k
-  unfolding isReady waits holdsUp
-  ready-cong k h =
-      let t : suc k < w = omega arith in
-      rw (
-        alike (suc k) t,
-        first-cong (λ a. f (suc a) (suc k) && not (p (suc a))) (λ a. g (suc a) (suc k) && not (q (suc a))) n
-            (λ j b. let u : suc j < w = omega arith in rw (same (suc j) (suc k) u t, alike (suc j) u)),
-      )
-
-  pub next-cong : nextTask f n p ≡ nextTask g n q
-  unfolding nextTask
-  next-cong = first-cong (isReady f n p) (isReady g n q) n ready-cong
 
 -- ---- as computed and as stated
 

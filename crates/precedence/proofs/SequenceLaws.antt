@@ -23,7 +23,7 @@ use Rattle.precedence.specs.Order.{Stands, Ready, IsOrder}
 use Rattle.precedence.specs.Circles.{reach}
 use Rattle.precedence.specs.Sequence.{stands, isReady, nextTask, withNext, ordered}
 use Rattle.precedence.proofs.CircleLaws.{reach-feeds, reach-joins, reach-path}
-use Rattle.precedence.proofs.ReadyLaws.{stands-last, stands-exactly, ready-exactly, next-cong}
+use Rattle.precedence.proofs.ReadyLaws.{stands-last, stands-exactly, ready-exactly}
 use Rattle.precedence.proofs.OrderLaws.{ready-same}
 
 -- ---- the computed list, entry by entry
@@ -46,14 +46,6 @@ module _ (f : ℕ → ℕ → Bool) (n : ℕ) where
       let e : suc w + i ≡ suc (w + i) = omega arith in
       rw e (List·getD-append (ordered f n (w + i)) (nextTask f n (stands (ordered f n (w + i))) ∷ []) 0 j (omega (arith, ordered-length (w + i)))
       ∙ ordered-front i w j h)
-
-  -- equal relations have the same order
-  pub ordered-cong : (g : ℕ → ℕ → Bool) (w : ℕ) → n < w → ((a b : ℕ) → a < w → b < w → f a b ≡ g a b) → (i : ℕ) → ordered f n i ≡ ordered g n i
-  unfolding ordered withNext
-  ordered-cong g w few same zero = refl
-  ordered-cong g w few same (suc i) =
-      let ih = ordered-cong g w few same i in
-      rw (ih, next-cong f g w n few same (stands (ordered g n i)) (stands (ordered g n i)) (λ t h. refl))
 
 -- ---- how many tasks stand
 

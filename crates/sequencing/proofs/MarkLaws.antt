@@ -14,7 +14,8 @@ use Rattle.numbers.specs.Rows.{padded}
 use Rattle.numbers.proofs.FirstLaws.{Seeking, looked-found, seek-none}
 use Rattle.numbers.proofs.ZeroLaws.{padded-next}
 use Rattle.precedence.specs.Sequence.{stands, holdsUp, waits, isReady, nextTask, withNext, ordered}
-use Rattle.precedence.proofs.ReadyLaws.{stands-last, next-cong}
+use Rattle.precedence.proofs.ReadyLaws.{stands-last}
+use Rattle.precedence.proofs.WidthLaws.{next-cong}
 use Rattle.precedence.proofs.SequenceLaws.{ordered-length}
 use Rattle.relation.specs.Cells.{edge}
 use Rattle.sequencing.specs.Marks.{marked}
@@ -78,7 +79,7 @@ place-next {cells} {n} {order} {placed} {i} {t} s h g e b =
     let one : i + 1 ≡ suc i = omega arith in
     let f : ℕ → ℕ → Bool = edge cells in
     let l : List ℕ = ordered f n i in
-    let q : t ≡ nextTask f n (stands l) = e ∙ next-cong f f 17 n (omega arith) (λ a b x y. refl) (marked placed) (stands l) (s .marks .at) in
+    let q : t ≡ nextTask f n (stands l) = e ∙ next-cong f f 17 (λ a b x y. refl) n (omega arith) (marked placed) (stands l) (s .marks .at) in
     let long : length l ≡ i = ordered-length f n i in
     record {
       top = omega arith;

@@ -15,6 +15,7 @@ abbrev μ-loop : tie.MeasureT-loop
 pub circle-task-spec : {M : Type 1} → statement M
 circle-task-spec =
     tie.close (tie.spec Inv-loop μ-loop (λ c κs. search needs) (λ c. search (needs, seek-start)) (λ c. search needs)
-    (λ c. search needs) (λ c κs. search needs) (λ c. search needs) (λ c. search (needs, circle-first, looked-found, circle-here))
+    (λ c. search needs) (λ c κs. search needs) (λ c. search needs) (λ c. circle-first _ (c .before .before .before .before .before .closure .ensures) (c .before .before .before .before .before .before .pre)
+    (looked-found (c .before .before .before .before .loop .inv) (c .before .before .before .loop-test .taken) (circle-here _ _ (c .before .feeds .ensures)) (c .if1 .taken)))
     (λ c. search needs) (λ c. search needs) (λ c. search (needs, looked-on, circle-here))
     (λ c. search (needs, circle-first, seek-none)))

@@ -14,4 +14,4 @@ abbrev μ-loop : tie.MeasureT-loop
 pub closure-spec : {M : Type 1} → statement M
 closure-spec =
     tie.close (tie.spec Inv-loop μ-loop (λ c. search (needs, close-start)) (λ c. search needs) (λ c κs. search needs)
-    (λ c. search needs) (λ c. search needs) (λ c. search (needs, close-next)) (λ c. search (needs, close-done)))
+    (λ c. search needs) (λ c. search needs) (λ c. close-next (c .before .before .loop .inv) (c .before .loop-test .taken) (c .before .before .before .pre) (c .by-way-of .ensures)) (λ c. search (needs, close-done)))

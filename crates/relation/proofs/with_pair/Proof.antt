@@ -6,5 +6,5 @@ use Rattle.relation.proofs.with_pair.Tie as tie
 
 pub with-pair-spec : {M : Type 1} → statement M
 with-pair-spec =
-    tie.close (tie.spec (λ c. search (needs, pair-past-left)) (λ c. search (needs, pair-past-right)) (λ c. search needs)
-    (λ c. search needs) (λ c. search needs) (λ c. search (needs, pair-set)))
+    tie.close (tie.spec (λ c. pair-past-left _ _ _ (search needs) (c .if1 .taken)) (λ c. pair-past-right _ _ _ (search needs) (c .if2 .taken))
+    (λ c. search needs) (λ c. search needs) (λ c. search needs) (λ c. pair-set _ _ _ (search needs) (c .before .if1 .left) (c .if2 .left)))

@@ -1,5 +1,6 @@
 -- The loop looks for the first task that is ready.
 use Prim.Native.Nat.{_-_}
+use mathlib.Core.Path.{refl}
 use Rattle.numbers.proofs.FirstLaws.{Seeking, seek-start, seek-none, looked-on, looked-found}
 use Rattle.precedence.specs.Sequence.{isReady, nextTask}
 use Rattle.relation.specs.Cells.{edge}
@@ -19,5 +20,9 @@ pub next-task-spec : {M : Type 1} → statement M
 unfolding nextTask
 next-task-spec =
     tie.close (tie.spec Inv-loop μ-loop (λ c. search (needs, seek-start)) (λ c. search needs) (λ c. search needs) (λ c. search needs) (λ c κs. search needs)
-    (λ c. search needs) (λ c. (search (needs, looked-found, ready-here), search needs)) (λ c. search needs)
+    (λ c. search needs) (λ c. (
+      looked-found (c .before .before .before .before .loop .inv) (c .before .before .before .loop-test .taken)
+          (ready-here _ _ (c .before .before .before .before .before .args .placed .now) _ refl (c .before .waits .ensures)) (c .if1 .taken),
+      search needs,
+    )) (λ c. search needs)
     (λ c. search needs) (λ c. search (needs, looked-on, ready-here)) (λ c. (search (needs, seek-none), search needs)))
