@@ -16,5 +16,7 @@ abbrev μ-loop : tie.MeasureT-loop
 pub first-unfit-spec : {M : Type 1} → statement M
 first-unfit-spec =
     tie.close (tie.spec Inv-loop μ-loop (λ c κs. search needs) (λ c. search (needs, seek-start)) (λ c κs. search needs)
-    (λ c κs. search needs) (λ c κs. search needs) (λ c. search needs) (λ c. search (needs, unfit-first, looked-found, unfit-here))
+    (λ c κs. search needs) (λ c κs. search needs) (λ c. search needs) (λ c. unfit-first _ _ _ (c .before .before .before .before .before .before .count .ensures .0)
+    (looked-found (c .before .before .before .before .before .loop .inv) (c .before .before .before .before .loop-test .taken)
+    (unfit-here _ _ _ _ (c .before .before .before .feeding .ensures .0) (c .before .before .fed .ensures .0) (c .before .is-unfit .ensures)) (c .if1 .taken)))
     (λ c. search needs) (λ c. search needs) (λ c. search (needs, looked-on, unfit-here)) (λ c. search (needs, unfit-first, seek-none)))

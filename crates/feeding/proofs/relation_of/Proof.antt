@@ -13,6 +13,7 @@ abbrev μ-loop : tie.MeasureT-loop
 
 pub relation-of-spec : {M : Type 1} → statement M
 relation-of-spec =
-    tie.close (tie.spec Inv-loop μ-loop (λ c κs. search needs) (λ c. search (needs, gather-start)) (λ c κs. search needs)
-    (λ c κs. search needs) (λ c κs. search needs) (λ c. search needs) (λ c. search needs) (λ c. search (needs, gather-next))
+    tie.close (tie.spec Inv-loop μ-loop (λ c κs. search needs) (λ c. gather-start _ _) (λ c κs. search needs)
+    (λ c κs. search needs) (λ c κs. search needs) (λ c. search needs) (λ c. search needs) (λ c. gather-next (c .before .before .before .before .loop .inv) (c .before .before .before .loop-test .taken)
+    (c .before .before .feeding .ensures .0) (c .before .fed .ensures .0) (c .with-pair .ensures))
     (λ c. search (needs, gather-done)))

@@ -14,4 +14,5 @@ abbrev μ-loop : tie.MeasureT-loop
 pub task-order-spec : {M : Type 1} → statement M
 task-order-spec =
     tie.close (tie.spec Inv-loop μ-loop (λ c. search (needs, place-start)) (λ c κs. search needs) (λ c. search needs) (λ c. search needs) (λ c. search needs) (λ c. search needs)
-    (λ c. search needs) (λ c. search (needs, place-next)) (λ c. search (needs, place-done)))
+    (λ c. search needs) (λ c. place-next (c .before .before .before .before .loop .inv) (c .before .before .before .loop-test .taken) (c .before .before .before .before .before .pre)
+    (c .next-task .ensures .0) (c .next-task .ensures .1)) (λ c. search (needs, place-done)))
