@@ -14,8 +14,8 @@ pub fn append_outcome(t: Text, outcome: Outcome) -> Text
     match outcome {
         Outcome::Accepted => text::append_bytes(t, b"0 0"),
         Outcome::Refused(cause) => {
-            let number = decimal::append_decimal(t, refusal::number(cause) as u64);
-            decimal::append_field(number, refusal::place(cause) as u64)
+            let number = decimal::append_decimal(t, numbering::number(cause) as u64);
+            decimal::append_field(number, numbering::place(cause) as u64)
         }
     }
 }

@@ -16,7 +16,7 @@ fn code(verdict: Verdict) -> u32
         Verdict::All => 0,
         Verdict::Short => 1,
         Verdict::Spent => 2,
-        Verdict::Refused(cause) => 100 + refusal::number(cause),
+        Verdict::Refused(cause) => 100 + numbering::number(cause),
     }
 }
 

@@ -17,8 +17,8 @@ use text::Text;
 fn append_refusal(t: Text, cause: Cause) -> Text
     ensures { λ r. ⌜ Appended t (refusalLine (numberOf cause) (placeOf cause)) 50 r ⌝ }
 {
-    let number = refusal::number(cause) as u64;
-    let place = refusal::place(cause) as u64;
+    let number = numbering::number(cause) as u64;
+    let place = numbering::place(cause) as u64;
     let word = text::append_bytes(t, b"refused");
     let fields = decimal::append_field(decimal::append_field(word, number), place);
     text::append_bytes(fields, b"\n")

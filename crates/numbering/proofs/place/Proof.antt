@@ -1,8 +1,8 @@
 -- Each cause has its place.
 use borrow.Author.Needs.{needs}
 use Rattle.refusal.proofs.CauseLaws.{place-of}
-use Rattle.refusal.proofs.place.Statement.{statement}
-use Rattle.refusal.proofs.place.Tie as tie
+use Rattle.numbering.proofs.place.Statement.{statement}
+use Rattle.numbering.proofs.place.Tie as tie
 
 pub place-spec : {M : Type 1} → statement M
 place-spec =

@@ -1,8 +1,8 @@
 -- Each cause has its number.
 use borrow.Author.Needs.{needs}
 use Rattle.refusal.proofs.CauseLaws.{number-of}
-use Rattle.refusal.proofs.number.Statement.{statement}
-use Rattle.refusal.proofs.number.Tie as tie
+use Rattle.numbering.proofs.number.Statement.{statement}
+use Rattle.numbering.proofs.number.Tie as tie
 
 pub number-spec : {M : Type 1} → statement M
 number-spec =
