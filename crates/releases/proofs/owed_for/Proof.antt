@@ -1,8 +1,8 @@
 -- What is owed, by the test of the request.
 use borrow.Author.Needs.{needs}
-use Rattle.slots.proofs.SlotLaws.{owed-none, owed-some}
-use Rattle.slots.proofs.owed_for.Statement.{statement}
-use Rattle.slots.proofs.owed_for.Tie as tie
+use Rattle.releases.proofs.ReleaseLaws.{owed-none, owed-some}
+use Rattle.releases.proofs.owed_for.Statement.{statement}
+use Rattle.releases.proofs.owed_for.Tie as tie
 
 pub owed-for-spec : {M : Type 1} → statement M
 owed-for-spec =
