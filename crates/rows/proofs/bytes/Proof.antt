@@ -1,11 +1,11 @@
 -- A row of bytes, filled from the front.
 use native.Mathlib.Omega.{arith}
 use Prim.Native.Nat.{_-_}
 use Rattle.wire.specs.Bytes.{byteAt}
 use Rattle.numbers.proofs.RowLaws.{Filled, fill-start, fill-with, fill-most}
 use borrow.Author.Needs.{needs}
-use Rattle.wire.proofs.bytes.Statement.{statement}
-use Rattle.wire.proofs.bytes.Tie as tie
+use Rattle.rows.proofs.bytes.Statement.{statement}
+use Rattle.rows.proofs.bytes.Tie as tie
 
 abbrev Inv-loop : tie.InvT-loop
 Inv-loop s at n count entries₀ k₀ entries k = Filled 0 count (byteAt s at) entries k
