@@ -1,10 +1,22 @@
-// One slot of a core record: whether it can be, and the late task and the choice with it.
+// One slot of a core record: the empty one, whether one can be, and the late task and the choice with it.
 ghost use mathlib.Core.Path.{_≡_};
 ghost use Prim.Native.Nat.{_≤_};
-ghost use Rattle.edf.specs.Slots.{cannotBe};
+ghost use Rattle.edf.specs.Slots.{emptySlot, cannotBe};
 ghost use Rattle.slots.specs.SoFar.{lateSoFar, choiceSoFar};
 use edf::Claim;
 use edf::Slot;
+
+// A slot that no task has.
+pub fn empty() -> Slot
+    ensures { λ r. ⌜ r ≡ emptySlot ⌝ }
+{
+    Slot {
+        period: 0,
+        budget: 0,
+        until: 0,
+        remaining: 0,
+    }
+}
 
 // Whether a slot cannot be: it is not all zeros, and a field is out of its range. In a period of 0 no release is within the period.
 // A budget of 65,536 or more is above its period, or the period is above 10,000, whatever the cost is: so the remainder does, and the sum fits.

@@ -11,11 +11,11 @@ use Rattle.fields.specs.Most.{mostTasks, mostMultiple}
 use Rattle.fields.specs.Fields.{periodAt}
 use Rattle.fields.specs.Hyperperiod.{multipleTo, hyperperiodOf}
 use Rattle.fields.specs.Tests.{exceeds}
-use Rattle.ranges.specs.Multiple.{multipleOf}
+use Rattle.hyperperiod.specs.Multiple.{multipleOf}
 use Rattle.fields.specs.Limits.{Within}
 use Rattle.fields.specs.declared.Fields.{Fields}
 use Rattle.fields.proofs.HyperperiodLaws.{multiple-bound}
-use Rattle.ranges.specs.declared.Multiple.{Multiple}
+use Rattle.hyperperiod.specs.declared.Multiple.{Multiple}
 
 -- The loop over the periods: h is the least common multiple of the first k, and none of them exceeds 1,000,000.
 pub record Multiplying (f : Fields) (k h : ℕ) : Type 0 where

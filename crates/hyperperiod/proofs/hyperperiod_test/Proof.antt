@@ -2,10 +2,10 @@
 use mathlib.Core.Path.{ap}
 use Rattle.refusal.proofs.TestLaws.{refuse-at-by}
 use Rattle.refusal.specs.declared.Cause.the-variants.{Hyperperiod}
-use Rattle.ranges.specs.Multiple.{multipleOf}
+use Rattle.hyperperiod.specs.Multiple.{multipleOf}
 use borrow.Author.Needs.{needs}
-use Rattle.ranges.proofs.hyperperiod_test.Statement.{statement}
-use Rattle.ranges.proofs.hyperperiod_test.Tie as tie
+use Rattle.hyperperiod.proofs.hyperperiod_test.Statement.{statement}
+use Rattle.hyperperiod.proofs.hyperperiod_test.Tie as tie
 
 returns : tie.Need-returns
 unfolding multipleOf

@@ -1,9 +1,9 @@
 -- The running multiple, task by task, until it exceeds 1,000,000.
 use Prim.Native.Nat.{_-_}
-use Rattle.ranges.proofs.MultipleLaws.{Multiplying, multiply-start, multiply-next, multiply-exceeded, multiply-done}
+use Rattle.hyperperiod.proofs.MultipleLaws.{Multiplying, multiply-start, multiply-next, multiply-exceeded, multiply-done}
 use borrow.Author.Needs.{needs}
-use Rattle.ranges.proofs.common_multiple.Statement.{statement}
-use Rattle.ranges.proofs.common_multiple.Tie as tie
+use Rattle.hyperperiod.proofs.common_multiple.Statement.{statement}
+use Rattle.hyperperiod.proofs.common_multiple.Tie as tie
 
 abbrev Inv-loop : tie.InvT-loop
 Inv-loop f h₀ k₀ h k = Multiplying f k h

@@ -5,8 +5,8 @@ use mathlib.Core.Bool.{Bool, true, false, not, _&&_}
 use lib.Dec.{eqb}
 use borrow.Author.Needs.{needs}
 use borrow.Author.Tests.{eq-eqb, ne-eqb, not-true, not-false}
-use Rattle.branch.proofs.is_tried.Statement.{statement}
-use Rattle.branch.proofs.is_tried.Tie as tie
+use Rattle.twins.proofs.is_tried.Statement.{statement}
+use Rattle.twins.proofs.is_tried.Tie as tie
 
 -- f is whether the core has room, as r says, l its load, and s whether a lower twin is empty
 module _ {r f : Bool} (e : r ≡ f) where

@@ -1,9 +1,9 @@
 -- The loop's invariant: the row, as far as the pass has come.
 use Prim.Native.Nat.{_-_}
 use borrow.Author.Needs.{needs}
 use Rattle.blend.proofs.OneEntry.{Changing, change-start, change-pick, change-done}
-use Rattle.blend.proofs.with_choice.Statement.{statement}
-use Rattle.blend.proofs.with_choice.Tie as tie
+use Rattle.paths.proofs.with_choice.Statement.{statement}
+use Rattle.paths.proofs.with_choice.Tie as tie
 
 abbrev Inv-loop : tie.InvT-loop
 Inv-loop at c path₀ k₀ path k = Changing (λ y x. x) path₀ at c 16 path k

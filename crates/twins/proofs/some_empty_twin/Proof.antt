@@ -10,9 +10,9 @@ use mathlib.Core.Logic.{dite}
 use lib.Dec.{eqb}
 use lib.ListN.{getD}
 use borrow.Author.Needs.{needs}
-use Rattle.branch.specs.EmptyTwin.{someZeroTwin}
-use Rattle.branch.proofs.some_empty_twin.Statement.{statement}
-use Rattle.branch.proofs.some_empty_twin.Tie as tie
+use Rattle.twins.specs.EmptyTwin.{someZeroTwin}
+use Rattle.twins.proofs.some_empty_twin.Statement.{statement}
+use Rattle.twins.proofs.some_empty_twin.Tie as tie
 
 abbrev Inv-loop : tie.InvT-loop
 Inv-loop loads rows k d₀ d = (d ≤ k) × (someZeroTwin loads rows k d ≡ false)

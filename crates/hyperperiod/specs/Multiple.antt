@@ -5,7 +5,7 @@ use Rattle.numbers.specs.First.{first}
 use Rattle.fields.specs.Hyperperiod.{hyperperiodOf}
 use Rattle.fields.specs.Tests.{exceeds}
 use Rattle.fields.specs.declared.Fields.{Fields}
-use Rattle.ranges.specs.declared.Multiple.{Multiple}
+use Rattle.hyperperiod.specs.declared.Multiple.{Multiple}
 
 -- the first task at which the least common multiple exceeds 1,000,000, or the hyperperiod where there is none
 unfoldable pub multipleOf : Fields → Multiple
