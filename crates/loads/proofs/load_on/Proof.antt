@@ -1,9 +1,9 @@
 -- The sum so far is the load of the tasks that were added.
 use Prim.Native.Nat.{_-_}
-use Rattle.placing.proofs.LoadLaws.{Adding, add-start, add-fits, add-next, add-done}
+use Rattle.loads.proofs.LoadLaws.{Adding, add-start, add-fits, add-next, add-done}
 use borrow.Author.Needs.{needs}
-use Rattle.placing.proofs.load_on.Statement.{statement}
-use Rattle.placing.proofs.load_on.Tie as tie
+use Rattle.loads.proofs.load_on.Statement.{statement}
+use Rattle.loads.proofs.load_on.Tie as tie
 
 abbrev Inv-loop : tie.InvT-loop
 Inv-loop placement core t sum₀ k₀ sum k = Adding t placement core sum k

@@ -13,7 +13,7 @@ use Rattle.numbers.proofs.RowLaws.{Filled, fill-start, fill-with, fill-done, ro
 use Rattle.numbers.proofs.SortingLaws.{permutation-below}
 use Rattle.numbers.proofs.ReorderLaws.{order-long, gather-long, gather-cong, getD-gather, getD-scatter, position-of, position-entry}
 use Rattle.numbers.proofs.ZeroLaws.{zero-at}
-use Rattle.planning.specs.Listed.{Listed}
+use Rattle.reorder.specs.Listed.{Listed}
 
 module _ {order : List ℕ} {n : ℕ} (l : Listed order n) where
   -- the tasks in planning order

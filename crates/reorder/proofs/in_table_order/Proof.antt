@@ -1,9 +1,9 @@
 -- One task's choice after another is written at its place in the table.
 use Prim.Native.Nat.{_-_}
-use Rattle.planning.proofs.ListedLaws.{Scattering, scatter-start, scatter-next, scatter-done}
+use Rattle.reorder.proofs.ListedLaws.{Scattering, scatter-start, scatter-next, scatter-done}
 use borrow.Author.Needs.{needs}
-use Rattle.planning.proofs.in_table_order.Statement.{statement}
-use Rattle.planning.proofs.in_table_order.Tie as tie
+use Rattle.reorder.proofs.in_table_order.Statement.{statement}
+use Rattle.reorder.proofs.in_table_order.Tie as tie
 
 abbrev Inv-loop : tie.InvT-loop
 Inv-loop n choices order placement₀ k₀ placement k = Scattering order n choices placement k

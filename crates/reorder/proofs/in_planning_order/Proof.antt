@@ -1,10 +1,10 @@
 -- One task's value after another is written at the end.
 use Prim.Native.Nat.{_-_}
 use native.Mathlib.Omega.{arith}
-use Rattle.planning.proofs.ListedLaws.{Gathering, gather-start, gather-next, gather-done, listed-below}
+use Rattle.reorder.proofs.ListedLaws.{Gathering, gather-start, gather-next, gather-done, listed-below}
 use borrow.Author.Needs.{needs}
-use Rattle.planning.proofs.in_planning_order.Statement.{statement}
-use Rattle.planning.proofs.in_planning_order.Tie as tie
+use Rattle.reorder.proofs.in_planning_order.Statement.{statement}
+use Rattle.reorder.proofs.in_planning_order.Tie as tie
 
 abbrev Inv-loop : tie.InvT-loop
 Inv-loop n values order gathered₀ k₀ gathered k = Gathering order n values gathered k

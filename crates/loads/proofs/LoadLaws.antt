@@ -17,7 +17,7 @@ use Rattle.taskset.specs.declared.TaskSet.{TaskSet}
 use Rattle.taskset.specs.Demands.{demandOf, loadOn}
 use Rattle.taskset.specs.Promise.{Checked}
 use Rattle.taskset.proofs.DemandLaws.{demands-small, hyperperiod-held, demand-held}
-use Rattle.placing.specs.Tests.{loadTest}
+use Rattle.loads.specs.Test.{loadTest}
 
 -- A loop that adds the demands on a core: those of the tasks before k are added.
 pub record Adding (t : TaskSet) (placement : List ℕ) (core sum k : ℕ) : Type 0 where
