@@ -15,8 +15,11 @@ abbrev μ-loop : tie.MeasureT-loop
 array-read-with-byte : tie.Need-array-read-with-byte Inv-loop μ-loop
 array-read-with-byte c = omega (arith, listed-below (c .before .loop .inv .listed) _ (c .loop-test .taken), c .before .before .pre .few)
 
+loop-again : tie.Need-loop-again Inv-loop μ-loop
+loop-again c = gather-next (c .before .before .loop .inv) (c .before .loop-test .taken) (c .with-byte .ensures)
+
 pub bytes-in-planning-order-spec : {M : Type 1} → statement M
 bytes-in-planning-order-spec =
     tie.close (tie.spec Inv-loop μ-loop (λ c. search (needs, gather-start)) (λ c. search needs) (λ c. search needs)
     array-read-with-byte (λ c κs. search needs) (λ c. search needs) (λ c. search needs)
-    (λ c. search (needs, gather-next)) (λ c. search (needs, gather-done)))
+    loop-again (λ c. search (needs, gather-done)))

@@ -18,8 +18,11 @@ mul-with-number c = record { fits = omega (arith, listed-below (c .before .loop 
 array-read-with-number : tie.Need-array-read-with-number Inv-loop μ-loop
 array-read-with-number c = omega (arith, listed-below (c .before .loop .inv .listed) _ (c .loop-test .taken), c .before .before .pre .few)
 
+loop-again : tie.Need-loop-again Inv-loop μ-loop
+loop-again c = gather-next (c .before .before .loop .inv) (c .before .loop-test .taken) (c .with-number .ensures)
+
 pub in-planning-order-spec : {M : Type 1} → statement M
 in-planning-order-spec =
     tie.close (tie.spec Inv-loop μ-loop (λ c. search (needs, gather-start)) (λ c. search needs) (λ c. search needs)
     mul-with-number array-read-with-number (λ c κs. search needs) (λ c. search needs) (λ c. search needs)
-    (λ c. search (needs, gather-next)) (λ c. search (needs, gather-done)))
+    loop-again (λ c. search (needs, gather-done)))

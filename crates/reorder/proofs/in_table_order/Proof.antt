@@ -11,8 +11,11 @@ Inv-loop n choices order placement₀ k₀ placement k = Scattering order n choi
 abbrev μ-loop : tie.MeasureT-loop
 μ-loop n choices order placement₀ k₀ placement k = n - k
 
+loop-again : tie.Need-loop-again Inv-loop μ-loop
+loop-again c = scatter-next (c .before .before .loop .inv) (c .before .loop-test .taken) (c .with-byte .ensures)
+
 pub in-table-order-spec : {M : Type 1} → statement M
 in-table-order-spec =
     tie.close (tie.spec Inv-loop μ-loop (λ c. search (needs, scatter-start)) (λ c. search needs) (λ c. search needs)
-    (λ c. search needs) (λ c κs. search needs) (λ c. search needs) (λ c. search needs) (λ c. search (needs, scatter-next))
+    (λ c. search needs) (λ c κs. search needs) (λ c. search needs) (λ c. search needs) loop-again
     (λ c. search (needs, scatter-done)))

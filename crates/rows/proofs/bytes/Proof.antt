@@ -15,7 +15,7 @@ abbrev μ-loop : tie.MeasureT-loop
 
 loop-again : tie.Need-loop-again Inv-loop μ-loop
 unfolding byteAt
-loop-again c = search (needs, fill-with)
+loop-again c = fill-with (c .before .before .before .loop .inv) (c .before .before .loop-test .taken) (c .with-byte .ensures) (c .before .byte .ensures)
 
 pub bytes-spec : {M : Type 1} → statement M
 bytes-spec =

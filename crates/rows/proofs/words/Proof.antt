@@ -15,7 +15,7 @@ abbrev μ-loop : tie.MeasureT-loop
 
 loop-again : tie.Need-loop-again Inv-loop μ-loop
 unfolding wordAt
-loop-again c = search (needs, fill-with)
+loop-again c = fill-with (c .before .before .before .loop .inv) (c .before .before .loop-test .taken) (c .with-number .ensures) (c .before .word .ensures)
 
 pub words-spec : {M : Type 1} → statement M
 words-spec =
