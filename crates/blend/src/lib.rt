@@ -1,10 +1,11 @@
-// Arrays by value with one entry changed: each entry is written, by its own test.
+// The cores' loads with one of them changed: each entry is written, by its own test in the entries' own width, which the compiler makes a few
+// operations on all entries at once.
 ghost use mathlib.Core.Path.{_≡_};
 ghost use mathlib.Core.Bool.{cond};
 ghost use mathlib.Core.List.{_∷_};
 ghost use Prim.Native.Nat.{ℕ, _+_, _-_, _<_, _≤_};
 ghost use lib.Dec.{eqb};
-ghost use lib.ListN.{getD, set};
+ghost use lib.ListN.{getD};
 ghost use Rattle.blend.specs.Entry.{onCore};
 
 // x where c is i, and y otherwise.
@@ -12,28 +13,6 @@ pub fn pick(c: u32, i: u32, x: u32, y: u32) -> u32
     ensures { λ r. ⌜ r ≡ cond (eqb c i) x y ⌝ }
 {
     if c == i { x } else { y }
-}
-
-// The same for bytes.
-fn pick_byte(c: u8, i: u8, a: u8, b: u8) -> u8
-    ensures { λ r. ⌜ r ≡ cond (eqb c i) a b ⌝ }
-{
-    if c == i { a } else { b }
-}
-
-// The placement with the choice of the task at `at` changed. Here and for the loads each entry is written, by its own
-// test in the entries' own width: the compiler makes that a few operations on all entries at once.
-pub fn with_choice(mut path: [u8; 16], at: u8, c: u8) -> [u8; 16]
-    requires { ⌜ at < 16 ⌝ }
-    ensures { λ r. ⌜ r ≡ set path at c ⌝ }
-{
-    let mut k: u8 = 0;
-    while k < 16 {
-        let entry = pick_byte(at, k, c, path[k as usize]);
-        path[k as usize] = entry;
-        k += 1;
-    }
-    path
 }
 
 // The cores' loads, core 1 first, with demand d more on core c; choice 0 is no core. Four entries, and no fifth for what

@@ -79,7 +79,7 @@ fn slot_in(bytes: &[u8], k: usize) -> Slot
 pub fn slots_in(bytes: &[u8]) -> [Slot; 16]
     ensures { λ r. ⌜ r ≡ row emptySlot 16 (slotIn (now (bytes .entry))) ⌝ }
 {
-    let empty = Slot::empty();
+    let empty = slots::empty();
     let mut slots = [empty; 16];
     let mut k = 0usize;
     while k < 16 {

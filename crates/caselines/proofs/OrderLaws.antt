@@ -7,8 +7,8 @@ use native.Mathlib.Omega.{arith}
 use Rattle.taskset.specs.declared.TaskSet.{TaskSet}
 use Rattle.ordering.specs.Order.{planningOrder}
 use Rattle.ordering.proofs.OrderLaws.{planning-is}
-use Rattle.planning.specs.Listed.{Listed}
-use Rattle.planning.proofs.ListedLaws.{listed-below}
+use Rattle.reorder.specs.Listed.{Listed}
+use Rattle.reorder.proofs.ListedLaws.{listed-below}
 
 pub order-listed : (t : TaskSet) {o : List ℕ} → t .fields .n ≤ 16 → o ≡ planningOrder t → Listed o (t .fields .n)
 order-listed t few e = record { few = few; each = rw e (planning-is t few .each) }

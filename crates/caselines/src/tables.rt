@@ -1,7 +1,7 @@
 // Code 1: what the reader says of a table, with the planning order. Block: the table, up to 1,024 bytes.
 ghost use mathlib.Core.Path.{_≡_};
 ghost use Prim.Native.Nat.{_+_, _≤_, _<_};
-ghost use Rattle.planning.specs.Listed.{Listed};
+ghost use Rattle.reorder.specs.Listed.{Listed};
 ghost use Rattle.text.specs.Shown.{shown, Appended};
 ghost use Rattle.caselines.specs.Lines.{sizeFields, taskNumbers, taskFields, tableLine};
 use crate::lines;

@@ -26,8 +26,8 @@ pub fn decode(
 {
     let n = wire::size(wire::byte(s, at));
     let m = wire::size(wire::byte(s, at + 1));
-    let periods = wire::words(s, lead, n);
-    let budgets = wire::words(s, lead + 4 * n, n);
+    let periods = rows::words(s, lead, n);
+    let budgets = rows::words(s, lead + 4 * n, n);
     Fields {
         n: n,
         m: m,

@@ -116,7 +116,7 @@ pub fn limit_tests(f: Fields) -> Outcome
     let costs = costs_test(f);
     let row = fields::row_test(f);
     let affinity = affinity_test(f);
-    let hyperperiod = ranges::hyperperiod_test(f);
+    let hyperperiod = hyperperiod::hyperperiod_test(f);
     let from_affinity = refusal::then(affinity, hyperperiod);
     let from_row = refusal::then(row, from_affinity);
     let from_costs = refusal::then(costs, from_row);

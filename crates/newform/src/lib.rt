@@ -21,7 +21,7 @@ fn decode(s: &[u8]) -> Fields
 {
     let n = wire::size(wire::byte(s, 1));
     let charge = wire::wide(wire::byte(s, 3));
-    let affinity = wire::bytes(s, LEAD + 8 * n, n);
+    let affinity = rows::bytes(s, LEAD + 8 * n, n);
     form::decode(s, 1, LEAD, charge, affinity, n)
 }
 

@@ -51,7 +51,7 @@ pub fn read_beside(table: &[u8], charge: u32, affinity: &[u8]) -> Reading
     ensures stored { λ r. ⌜ ReadsIn (FormBeside charge (now (affinity .entry))) (now (table .entry)) r ⌝ }
 {
     let n = wire::size(wire::byte(table, 0));
-    let row = wire::bytes(affinity, 0, n);
+    let row = rows::bytes(affinity, 0, n);
     read_with(table, charge, row, affinity.len())
 }
 

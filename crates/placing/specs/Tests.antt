@@ -1,23 +1,17 @@
--- The tests of a core number and of the core's load, and all tests of a placing, for fields of a table.
+-- The test of a core number, and all tests of a placing, for fields of a table.
 use Prim.Native.Nat.{ℕ}
 use mathlib.Core.List.{List, [], _∷_}
-use lib.Dec.{ltb}
 use Rattle.numbers.specs.Bounds.{outside}
 use Rattle.refusal.specs.Tests.{refuseIf, inOrder}
-use Rattle.refusal.specs.declared.Cause.the-variants.{CoreNumber, Overload}
+use Rattle.refusal.specs.declared.Cause.the-variants.{CoreNumber}
 use Rattle.refusal.specs.declared.Outcome.{Outcome}
 use Rattle.fields.specs.declared.Fields.{Fields}
-use Rattle.fields.specs.Hyperperiod.{hyperperiodOf}
-use Rattle.taskset.specs.Demands.{loadOn}
+use Rattle.loads.specs.Test.{loadTest}
 use Rattle.entries.specs.Tests.{placesTest, entriesTest, permittedTest}
 
 -- number 10: the core number is 0 or above m
 abbrev pub coreTest : Fields → ℕ → Outcome
 coreTest f core = refuseIf (outside 1 (f .m) core) CoreNumber
-
--- number 11: the chosen core's load is above the hyperperiod
-abbrev pub loadTest : Fields → List ℕ → ℕ → Outcome
-loadTest f placement core = refuseIf (ltb (hyperperiodOf f) (loadOn f placement core)) Overload
 
 -- numbers 9, 16, 10 and 11, in this order
 abbrev pub placingTests : Fields → List ℕ → ℕ → List Outcome

@@ -79,7 +79,7 @@ pub fn plan_tasks(t: TaskSet, limit: u32) -> Allocation
     let permitted = prepared.affinity;
     let found = search::search(demands, permitted, n, t.fields.m, t.hyperperiod, limit);
     let choices = found.placement;
-    let placement = planning::in_table_order(choices, order, n);
+    let placement = reorder::in_table_order(choices, order, n);
     let verdict = verdict_of(found.spent, found.rejected);
     Allocation {
         verdict: verdict,

@@ -19,11 +19,11 @@ use Rattle.allocation.specs.Placement.{problemOf}
 use Rattle.allocation.specs.TableOrder.{inPlanningOrder}
 use Rattle.ordering.specs.Order.{precedes, planningOrder}
 use Rattle.ordering.proofs.OrderLaws.{planning-front, planning-is}
-use Rattle.planning.specs.Listed.{Listed}
+use Rattle.reorder.specs.Listed.{Listed}
 use Rattle.planning.specs.Problem.{tableProblem, orderOf}
 use Rattle.planning.specs.Prepared.{Prepares}
 use Rattle.planning.specs.declared.Prepared.{Prepared}
-use Rattle.planning.proofs.ListedLaws.{gathered-tasks, gathered-entries, gathered-each}
+use Rattle.reorder.proofs.ListedLaws.{gathered-tasks, gathered-entries, gathered-each}
 
 module _ {t : TaskSet} (c : Checked t) where
   few : t .fields .n ≤ 16

@@ -6,7 +6,7 @@ use lib.ListN.{getD, take}
 use Rattle.taskset.specs.declared.TaskSet.{TaskSet}
 use Rattle.allocation.specs.Placement.{problemOf}
 use Rattle.allocation.specs.TableOrder.{inPlanningOrder}
-use Rattle.planning.specs.Listed.{Listed}
+use Rattle.reorder.specs.Listed.{Listed}
 use Rattle.planning.specs.Problem.{tableProblem, orderOf}
 use Rattle.planning.specs.declared.Prepared.{Prepared}
 

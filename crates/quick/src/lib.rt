@@ -40,7 +40,7 @@ pub fn quick_tasks(t: TaskSet) -> QuickPlan
     let permitted = prepared.affinity;
     let found = firstfit::first_fit(demands, permitted, n, t.fields.m, t.hyperperiod);
     let choices = found.placement;
-    let placement = planning::in_table_order(choices, order, n);
+    let placement = reorder::in_table_order(choices, order, n);
     QuickPlan {
         outcome: Outcome::Accepted,
         placement: placement,

@@ -1,17 +1,8 @@
-// Whether a task's period, budget, cost or core byte is out of its range, and the least common multiple of the periods.
+// Whether a task's period, budget, cost or core byte is out of its range.
 ghost use mathlib.Core.Path.{_≡_};
 ghost use Prim.Native.Nat.{_≤_, _<_};
-ghost use Rattle.fields.specs.Tests.{badPeriod, badBudget, badCost, badAffinity, hyperperiodTest};
-ghost use Rattle.ranges.specs.Multiple.{multipleOf};
+ghost use Rattle.fields.specs.Tests.{badPeriod, badBudget, badCost, badAffinity};
 use fields::Fields;
-use refusal::Cause;
-use refusal::Outcome;
-
-// The least common multiple of the periods, or the first task, from 1, at which it exceeds 1,000,000.
-pub struct Multiple {
-    pub exceeded: usize,
-    pub value: u32,
-}
 
 // Whether the period of task `k` is outside 1 to 10,000.
 pub fn is_bad_period(f: Fields, k: usize) -> bool
@@ -43,37 +34,4 @@ pub fn is_bad_affinity(f: Fields, k: usize) -> bool
     ensures { λ r. ⌜ r ≡ badAffinity f k ⌝ }
 {
     affinity::is_unfit(f.affinity[k], f.m)
-}
-
-// The least common multiple of the periods, task by task until it exceeds 1,000,000.
-pub fn common_multiple(f: Fields) -> Multiple
-    requires { ⌜ f .n ≤ 16 ⌝ }
-    ensures { λ r. ⌜ r ≡ multipleOf f ⌝ }
-{
-    let mut h: u32 = 1;
-    let mut k = 0;
-    while k < f.n {
-        let next = multiples::lcm(h, f.periods[k]);
-        if fields::MOST_MULTIPLE < next {
-            return Multiple {
-                exceeded: k + 1,
-                value: 0,
-            };
-        }
-        h = next as u32;
-        k += 1;
-    }
-    Multiple {
-        exceeded: 0,
-        value: h,
-    }
-}
-
-// Number 7.
-pub fn hyperperiod_test(f: Fields) -> Outcome
-    requires { ⌜ f .n ≤ 16 ⌝ }
-    ensures { λ r. ⌜ r ≡ hyperperiodTest f ⌝ }
-{
-    let task = common_multiple(f).exceeded;
-    refusal::refuse_if(task != 0, Cause::Hyperperiod(task))
 }

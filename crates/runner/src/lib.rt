@@ -36,7 +36,7 @@ fn after_run(run: usize, slots: [Slot; 16]) -> [Slot; 16]
     let mut next = slots;
     if run != 0 {
         let s = next[run - 1];
-        next[run - 1] = slots::ran(s);
+        next[run - 1] = countdown::ran(s);
     }
     next
 }

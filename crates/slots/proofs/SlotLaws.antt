@@ -1,41 +1,17 @@
--- A slot as its programs make it, and the tests of one.
-use Prim.Native.Nat.{ℕ, _+_, _-_, _%_, _≤_, _<_, min}
+-- The tests of one slot, as their programs make them.
+use Prim.Native.Nat.{ℕ, _+_, _%_, _≤_, _<_}
 use mathlib.Core.Path.{_≡_, refl, sym, ap}
 use mathlib.Core.Logic.{by-cases}
 use mathlib.Core.Bool.{Bool, true, false, not, _&&_, _||_, or-true}
 use native.Mathlib.Omega.{arith}
 use native.Mathlib.Decide.{ℕ-discrete, decLt}
-use native.Mathlib.Nat.{min-le-left, mod-eq-of-lt}
+use native.Mathlib.Nat.{mod-eq-of-lt}
 use lib.Dec.{eqb, ltb, leb}
 use borrow.Author.Tests.{eq-eqb, ne-eqb, lt-ltb, le-ltb, le-leb, ltb-true}
 use Rattle.edf.specs.declared.Slot.{Slot}
 use Rattle.edf.specs.declared.Claim.{Claim}
 use Rattle.edf.specs.Slots.{cannotBe}
-use Rattle.edf.specs.Tick.{owedFor, released, ran, advanced}
 use Rattle.slots.specs.SoFar.{lateSoFar, choiceSoFar}
-
--- What a task is owed, by the test of its request.
-module _ (charge budget : ℕ) {asked : ℕ} where
-  pub owed-none : asked ≡ 0 → 0 ≡ owedFor charge budget asked
-  unfolding owedFor
-  owed-none e = rw (eq-eqb asked 0 e) (omega (arith, min-le-left asked budget))
-
-  pub owed-some : {least : ℕ} → (asked ≡ 0 → ⊥) → least ≡ min asked budget → least + charge ≡ owedFor charge budget asked
-  unfolding owedFor
-  owed-some n e = rw (ne-eqb asked 0 n, e)
-
--- A slot as its program makes it: each field that changes, by its own call.
-pub advanced-by : (s : Slot) {until : ℕ} → until ≡ s .until - 1
-    → record { period = s .period; budget = s .budget; until = until; remaining = s .remaining } ≡ advanced s
-advanced-by s e = λ i. record { period = s .period; budget = s .budget; until = e i; remaining = s .remaining }
-
-pub released-by : (s : Slot) {owed x : ℕ} → owed ≡ x
-    → record { period = s .period; budget = s .budget; until = s .period; remaining = owed } ≡ released s x
-released-by s e = ap (released s) e
-
-pub ran-by : (s : Slot) {remaining : ℕ} → remaining ≡ s .remaining - 1
-    → record { period = s .period; budget = s .budget; until = s .until; remaining = remaining } ≡ ran s
-ran-by s e = λ i. record { period = s .period; budget = s .budget; until = s .until; remaining = e i }
 
 -- The late task and the choice so far, by their tests.
 module _ (late k : ℕ) (s : Slot) where

@@ -1,11 +1,22 @@
-// One slot of a core record: whether it can be, its release, the choice with it, its run and its countdown.
+// One slot of a core record: the empty one, whether one can be, and the late task and the choice with it.
 ghost use mathlib.Core.Path.{_≡_};
-ghost use Prim.Native.Nat.{_+_, _-_, _≤_, min};
-ghost use Rattle.edf.specs.Slots.{cannotBe};
-ghost use Rattle.edf.specs.Tick.{owedFor, released as releasedOf, ran as ranOf, advanced as advancedOf};
+ghost use Prim.Native.Nat.{_≤_};
+ghost use Rattle.edf.specs.Slots.{emptySlot, cannotBe};
 ghost use Rattle.slots.specs.SoFar.{lateSoFar, choiceSoFar};
 use edf::Claim;
 use edf::Slot;
+
+// A slot that no task has.
+pub fn empty() -> Slot
+    ensures { λ r. ⌜ r ≡ emptySlot ⌝ }
+{
+    Slot {
+        period: 0,
+        budget: 0,
+        until: 0,
+        remaining: 0,
+    }
+}
 
 // Whether a slot cannot be: it is not all zeros, and a field is out of its range. In a period of 0 no release is within the period.
 // A budget of 65,536 or more is above its period, or the period is above 10,000, whatever the cost is: so the remainder does, and the sum fits.
@@ -21,38 +32,6 @@ pub fn cannot_be(charge: u32, s: Slot) -> bool
             | (s.period < cost)
             | (s.period <= s.until)
             | (cost < s.remaining))
-}
-
-fn smaller(a: u32, b: u32) -> u32
-    ensures { λ r. ⌜ r ≡ min a b ⌝ }
-{
-    if a < b { a } else { b }
-}
-
-// What a task is owed for a period: nothing if it asks for nothing, or else the smaller of request and budget, and the charge.
-pub fn owed_for(charge: u32, budget: u32, asked: u32) -> u32
-    requires { ⌜ budget + charge ≤ 10000 ⌝ }
-    ensures { λ r. ⌜ r ≡ owedFor charge budget asked ⌝ }
-{
-    if asked == 0 {
-        0
-    } else {
-        smaller(asked, budget) + charge
-    }
-}
-
-// A slot that is released: its next release is a period away, and it owes what its task is owed for the period.
-pub fn released(charge: u32, asked: u32, s: Slot) -> Slot
-    requires { ⌜ s .budget + charge ≤ 10000 ⌝ }
-    ensures { λ r. ⌜ r ≡ releasedOf s (owedFor charge (s .budget) asked) ⌝ }
-{
-    let owed = owed_for(charge, s.budget, asked);
-    Slot {
-        period: s.period,
-        budget: s.budget,
-        until: s.period,
-        remaining: owed,
-    }
 }
 
 // The late task so far, with one released slot more.
@@ -81,37 +60,5 @@ pub fn choice_so_far(best: Claim, number: usize, s: Slot) -> Claim
         }
     } else {
         best
-    }
-}
-
-fn less_one(x: u32) -> u32
-    ensures { λ r. ⌜ r ≡ x - 1 ⌝ }
-{
-    if x == 0 { 0 } else { x - 1 }
-}
-
-// Step 3: an occupied slot's release is one tick nearer.
-pub fn advanced(s: Slot) -> Slot
-    ensures { λ r. ⌜ r ≡ advancedOf s ⌝ }
-{
-    let until = less_one(s.until);
-    Slot {
-        period: s.period,
-        budget: s.budget,
-        until: until,
-        remaining: s.remaining,
-    }
-}
-
-// Step 2: the slot that runs owes one tick less.
-pub fn ran(s: Slot) -> Slot
-    ensures { λ r. ⌜ r ≡ ranOf s ⌝ }
-{
-    let remaining = less_one(s.remaining);
-    Slot {
-        period: s.period,
-        budget: s.budget,
-        until: s.until,
-        remaining: remaining,
     }
 }

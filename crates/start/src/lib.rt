@@ -35,7 +35,7 @@ fn fresh_slot(period: u32, budget: u32, placed: u8, core: u8) -> Slot
             remaining: 0,
         }
     } else {
-        Slot::empty()
+        slots::empty()
     }
 }
 
@@ -44,7 +44,7 @@ fn fresh_slots(f: Fields, placement: &[u8], core: u8) -> [Slot; MOST_TASKS]
     requires { ⌜ f .n ≤ 16 ⌝ }
     ensures { λ r. ⌜ r ≡ freshSlots (placedTasks f (now (placement .entry))) core ⌝ }
 {
-    let empty = Slot::empty();
+    let empty = slots::empty();
     let mut slots = [empty; MOST_TASKS];
     let mut k: usize = 0;
     while k < f.n {
@@ -58,7 +58,7 @@ fn fresh_slots(f: Fields, placement: &[u8], core: u8) -> [Slot; MOST_TASKS]
 fn refused(cause: Cause) -> Started
     ensures { λ r. ⌜ r ≡ refusedStart cause ⌝ }
 {
-    let empty = Slot::empty();
+    let empty = slots::empty();
     let core = Core {
         slots: [empty; MOST_TASKS],
         charge: 0,

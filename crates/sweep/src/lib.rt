@@ -34,10 +34,10 @@ pub fn pass(
             if s.until == 0 {
                 late = slots::late_so_far(late, done + 1, s);
                 let asked = requests[done];
-                ready = slots::released(charge, asked, s);
+                ready = releases::released(charge, asked, s);
             }
             choice = slots::choice_so_far(choice, done + 1, ready);
-            next[done] = slots::advanced(ready);
+            next[done] = countdown::advanced(ready);
         }
         done += 1;
     }

@@ -89,7 +89,7 @@ fn accepted(f: Fields) -> Reading
     requires { ⌜ Within f ⌝ }
     ensures { λ r. ⌜ r ≡ acceptedReading f ⌝ }
 {
-    let h = ranges::common_multiple(f).value;
+    let h = hyperperiod::common_multiple(f).value;
     let d = demands(f, h);
     let tasks = TaskSet {
         fields: f,

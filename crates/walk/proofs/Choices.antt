@@ -23,7 +23,7 @@ use Rattle.allocation.specs.Rule.{tellsApart, twins, areTwins, isEmpty, someEmp
 use Rattle.allocation.specs.Walk.{entered}
 use Rattle.allocation.proofs.Order.{choice-core, choice-none}
 use Rattle.outset.specs.Twins.{twinRows}
-use Rattle.branch.specs.EmptyTwin.{someZeroTwin}
+use Rattle.twins.specs.EmptyTwin.{someZeroTwin}
 use Rattle.walk.specs.Given.{Ranges}
 use Rattle.walk.proofs.State.{Job, problem, Fixed, Locals, held, Walking, Improving, Looked, path-room, load-next}
 

@@ -46,7 +46,7 @@ pub fn walk(
             let mut c = 0u32;
             let demand = demands[depth];
             if next < m {
-                if !branch::is_tried(affinity[depth], next, &loads, &twins, demand, h) {
+                if !twins::is_tried(affinity[depth], next, &loads, &twins, demand, h) {
                     next += 1;
                     continue 'choices;
                 }
@@ -70,7 +70,7 @@ pub fn walk(
                 break 'tasks;
             }
             steps += 1;
-            path = blend::with_choice(path, (depth % 256) as u8, c as u8);
+            path = paths::with_choice(path, (depth % 256) as u8, c as u8);
             if depth < deepest {
                 loads = blend::with_more(loads, c, demand);
                 out += blend::pick(c, 0, demand, 0);

@@ -2,8 +2,7 @@
 ghost use mathlib.Core.Path.{_≡_};
 ghost use Prim.Native.Nat.{_<_};
 ghost use lib.ListN.{getD};
-ghost use Rattle.numbers.specs.Rows.{row};
-ghost use Rattle.wire.specs.Bytes.{le32, wordAt, byteAt};
+ghost use Rattle.wire.specs.Bytes.{le32};
 
 // The byte at `at`, or 0 past the end.
 pub fn byte(s: &[u8], at: usize) -> u8
@@ -38,36 +37,4 @@ pub fn word(s: &[u8], at: usize) -> u32
     let b2 = wide(byte(s, at + 2));
     let b3 = wide(byte(s, at + 3));
     b0 + 256 * b1 + 65536 * b2 + 16777216 * b3
-}
-
-// The first `n` numbers of `s` from `at`, at most sixteen, and zeros up to sixteen.
-pub fn words(s: &[u8], at: usize, n: usize) -> [u32; 16]
-    requires { ⌜ at < 2048 ⌝ }
-    ensures { λ r. ⌜ r ≡ row 0 n (wordAt (now (s .entry)) at) ⌝ }
-{
-    let count = numbers::at_most_sixteen(n);
-    let mut entries = [0u32; 16];
-    let mut k = 0;
-    while k < count {
-        let next = numbers::with_number(entries, k, word(s, at + 4 * k));
-        entries = next;
-        k += 1;
-    }
-    entries
-}
-
-// The first `n` bytes of `s` from `at`, at most sixteen, and zeros up to sixteen.
-pub fn bytes(s: &[u8], at: usize, n: usize) -> [u8; 16]
-    requires { ⌜ at < 2048 ⌝ }
-    ensures { λ r. ⌜ r ≡ row 0 n (byteAt (now (s .entry)) at) ⌝ }
-{
-    let count = numbers::at_most_sixteen(n);
-    let mut entries = [0u8; 16];
-    let mut k = 0;
-    while k < count {
-        let next = numbers::with_byte(entries, k, byte(s, at + k));
-        entries = next;
-        k += 1;
-    }
-    entries
 }

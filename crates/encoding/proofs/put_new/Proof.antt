@@ -6,6 +6,11 @@ use borrow.Author.Needs.{needs}
 use Rattle.encoding.proofs.put_new.Statement.{statement}
 use Rattle.encoding.proofs.put_new.Tie as tie
 
+returns : tie.Need-returns
+returns c =
+    let start = c .before .before .before .before .before .before .before .before .before .before .before .before .before .before .before .before .before .before in
+    new-put _ (start .pre .0) (start .args .out .now) (start .pre .1) (c .before .before .before .before .before .before .before .before .before .before .put-words .ensures) (c .before .before .before .before .before .before .put-words2 .ensures) (c .before .before .put-bytes .ensures)
+
 put-words-requires : tie.Need-put-words-requires
 put-words-requires c κs =
     let start = c .before .before .before .before .before .before .before in
@@ -25,11 +30,6 @@ same-length : tie.Need-same-length
 same-length c =
     let start = c .before .before .before .before .before .before .before .before .before .before .before .before .before .before .before .before .before .before in
     new-same _ (start .pre .0) (start .args .out .now) (start .pre .1) (c .before .before .before .before .before .before .before .before .before .before .put-words .ensures) (c .before .before .before .before .before .before .put-words2 .ensures) (c .before .before .put-bytes .ensures)
-
-returns : tie.Need-returns
-returns c =
-    let start = c .before .before .before .before .before .before .before .before .before .before .before .before .before .before .before .before .before .before in
-    new-put _ (start .pre .0) (start .args .out .now) (start .pre .1) (c .before .before .before .before .before .before .before .before .before .before .put-words .ensures) (c .before .before .before .before .before .before .put-words2 .ensures) (c .before .before .put-bytes .ensures)
 
 pub put-new-spec : {M : Type 1} → statement M
 put-new-spec =

@@ -6,6 +6,11 @@ use borrow.Author.Needs.{needs}
 use Rattle.encoding.proofs.put_old.Statement.{statement}
 use Rattle.encoding.proofs.put_old.Tie as tie
 
+returns : tie.Need-returns
+returns c =
+    let start = c .before .before .before .before .before .before .before .before .before .before .before .before in
+    old-put _ (start .pre .0) (start .args .out .now) (start .pre .1) (c .before .before .before .before .before .before .put-words .ensures) (c .before .before .put-words2 .ensures)
+
 put-words-requires : tie.Need-put-words-requires
 put-words-requires c κs =
     let start = c .before .before .before .before .before in
@@ -20,11 +25,6 @@ same-length : tie.Need-same-length
 same-length c =
     let start = c .before .before .before .before .before .before .before .before .before .before .before .before in
     old-same _ (start .pre .0) (start .args .out .now) (start .pre .1) (c .before .before .before .before .before .before .put-words .ensures) (c .before .before .put-words2 .ensures)
-
-returns : tie.Need-returns
-returns c =
-    let start = c .before .before .before .before .before .before .before .before .before .before .before .before in
-    old-put _ (start .pre .0) (start .args .out .now) (start .pre .1) (c .before .before .before .before .before .before .put-words .ensures) (c .before .before .put-words2 .ensures)
 
 pub put-old-spec : {M : Type 1} → statement M
 put-old-spec =

@@ -15,8 +15,11 @@ Inv-loop affinity n rows₀ i₀ rows i = Filled false 16 (λ j. twins affinity 
 abbrev μ-loop : tie.MeasureT-loop
 μ-loop affinity n rows₀ i₀ rows i = 16 - i
 
+loop-again : tie.Need-loop-again Inv-loop μ-loop
+loop-again c = fill-next (c .before .before .loop .inv) (c .before .loop-test .taken) (c .are-twins .ensures)
+
 pub twin-rows-spec : {M : Type 1} → statement M
 unfolding twinRows
 twin-rows-spec =
     tie.close (tie.spec Inv-loop μ-loop (λ c. fill-start _ _ _ (omega arith)) (λ c. search needs) (λ c. search needs) (λ c κs. search needs)
-    (λ c. search needs) (λ c. search needs) (λ c. search needs) (λ c. search (needs, fill-next)) (λ c. search (needs, fill-done)))
+    (λ c. search needs) (λ c. search needs) (λ c. search needs) loop-again (λ c. search (needs, fill-done)))

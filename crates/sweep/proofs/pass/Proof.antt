@@ -18,12 +18,6 @@ abbrev μ-loop : tie.MeasureT-loop
 loop-holds : tie.Need-loop-holds Inv-loop μ-loop
 loop-holds c = record { record-before = c .pre .0; holds = c .pre .1; each = λ slots p. p }
 
-released-requires : tie.Need-released-requires Inv-loop μ-loop
-released-requires c κs =
-    let first = c .before .before .before in
-    let turn = first .before .before .before in
-    pass-cost (turn .before .loop .inv .holds) (turn .loop-test .taken) _ (first .if1 .taken)
-
 loop-again : tie.Need-loop-again Inv-loop μ-loop
 loop-again c =
     let now = c .before .before .before .before .loop in
@@ -38,6 +32,12 @@ loop-again c =
           ]
       | inr m ↦ pass-empty p h _ (m .0 .left) (m .3) (m .1) (m .2)
     ])
+
+released-requires : tie.Need-released-requires Inv-loop μ-loop
+released-requires c κs =
+    let first = c .before .before .before in
+    let turn = first .before .before .before in
+    pass-cost (turn .before .loop .inv .holds) (turn .loop-test .taken) _ (first .if1 .taken)
 
 returns : tie.Need-returns Inv-loop μ-loop
 returns c slots p = pass-done (c .before .loop .inv .each slots p) (c .loop-test .left)

@@ -1,7 +1,7 @@
 -- Within the limits the multiple is the hyperperiod.
 use Rattle.taskset.specs.Reading.{acceptedReading, taskSetOf}
 use Rattle.refusal.specs.declared.Outcome.the-variants.{Accepted}
-use Rattle.ranges.proofs.MultipleLaws.{multiple-value}
+use Rattle.hyperperiod.proofs.MultipleLaws.{multiple-value}
 use borrow.Author.Needs.{needs}
 use Rattle.taskset.proofs.accepted.Statement.{statement}
 use Rattle.taskset.proofs.accepted.Tie as tie

@@ -1,0 +1,18 @@
+-- The running multiple, task by task, until it exceeds 1,000,000.
+use Prim.Native.Nat.{_-_}
+use Rattle.hyperperiod.proofs.MultipleLaws.{Multiplying, multiply-start, multiply-next, multiply-exceeded, multiply-done}
+use borrow.Author.Needs.{needs}
+use Rattle.hyperperiod.proofs.common_multiple.Statement.{statement}
+use Rattle.hyperperiod.proofs.common_multiple.Tie as tie
+
+abbrev Inv-loop : tie.InvT-loop
+Inv-loop f h₀ k₀ h k = Multiplying f k h
+
+abbrev μ-loop : tie.MeasureT-loop
+μ-loop f h₀ k₀ h k = f .n - k
+
+pub common-multiple-spec : {M : Type 1} → statement M
+common-multiple-spec =
+    tie.close (tie.spec Inv-loop μ-loop (λ c. search (needs, multiply-start)) (λ c. search needs) (λ c. search needs)
+    (λ c κs. search needs) (λ c. search needs) (λ c. search (needs, multiply-exceeded)) (λ c. search needs)
+    (λ c. search needs) (λ c. search needs) (λ c. search (needs, multiply-next)) (λ c. search (needs, multiply-done)))

@@ -1,0 +1,25 @@
+-- One task's value after another is written at the end.
+use Prim.Native.Nat.{_-_}
+use native.Mathlib.Omega.{arith}
+use Rattle.reorder.proofs.ListedLaws.{Gathering, gather-start, gather-next, gather-done, listed-below}
+use borrow.Author.Needs.{needs}
+use Rattle.reorder.proofs.bytes_in_planning_order.Statement.{statement}
+use Rattle.reorder.proofs.bytes_in_planning_order.Tie as tie
+
+abbrev Inv-loop : tie.InvT-loop
+Inv-loop n values order gathered₀ k₀ gathered k = Gathering order n values gathered k
+
+abbrev μ-loop : tie.MeasureT-loop
+μ-loop n values order gathered₀ k₀ gathered k = n - k
+
+array-read-with-byte : tie.Need-array-read-with-byte Inv-loop μ-loop
+array-read-with-byte c = omega (arith, listed-below (c .before .loop .inv .listed) _ (c .loop-test .taken), c .before .before .pre .few)
+
+loop-again : tie.Need-loop-again Inv-loop μ-loop
+loop-again c = gather-next (c .before .before .loop .inv) (c .before .loop-test .taken) (c .with-byte .ensures)
+
+pub bytes-in-planning-order-spec : {M : Type 1} → statement M
+bytes-in-planning-order-spec =
+    tie.close (tie.spec Inv-loop μ-loop (λ c. search (needs, gather-start)) (λ c. search needs) (λ c. search needs)
+    array-read-with-byte (λ c κs. search needs) (λ c. search needs) (λ c. search needs)
+    loop-again (λ c. search (needs, gather-done)))

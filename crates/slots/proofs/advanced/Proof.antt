@@ -1,8 +1,0 @@
--- One less, by its own call.
-use borrow.Author.Needs.{needs}
-use Rattle.slots.proofs.SlotLaws.{advanced-by}
-use Rattle.slots.proofs.advanced.Statement.{statement}
-use Rattle.slots.proofs.advanced.Tie as tie
-
-pub advanced-spec : {M : Type 1} → statement M
-advanced-spec = tie.close (tie.spec (λ c κs. search needs) (λ c. advanced-by _ (c .less-one .ensures)))

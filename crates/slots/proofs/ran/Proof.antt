@@ -1,8 +1,0 @@
--- One less, by its own call.
-use borrow.Author.Needs.{needs}
-use Rattle.slots.proofs.SlotLaws.{ran-by}
-use Rattle.slots.proofs.ran.Statement.{statement}
-use Rattle.slots.proofs.ran.Tie as tie
-
-pub ran-spec : {M : Type 1} → statement M
-ran-spec = tie.close (tie.spec (λ c κs. search needs) (λ c. ran-by _ (c .less-one .ensures)))
