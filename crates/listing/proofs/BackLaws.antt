@@ -85,7 +85,7 @@ task-read f cores w k h =
 -- ---- whole texts
 
 -- a line at the end
-last-read : {bytes : List ℕ} {items : List Item} → Line bytes items → readText bytes ≡ items ∷ nothing ∷ []
+pub last-read : {bytes : List ℕ} {items : List Item} → Line bytes items → readText bytes ≡ items ∷ nothing ∷ []
 unfolding readText pieces item
 last-read {bytes} l = ap readText (sym (append-nil bytes)) ∙ l .read []
 

@@ -1,0 +1,4 @@
+pub mod BackLaws
+pub mod LineLaws
+pub mod OutputLaws
+pub mod SplitLaws
