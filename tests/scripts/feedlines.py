@@ -79,7 +79,7 @@ def named():
         must(found == [pair], f"{line} is the pair {pair}, and not {found}")
     for line, said in UNNAMED.items():
         try:
-            found = table_and_list(tasks + line)
+            found = str(table_and_list(tasks + line))
         except Mistake as mistake:
             found = str(mistake)
         must(found.startswith("line 18: ") and said in found, f"of {line} is said {said}: {found}")
