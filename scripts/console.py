@@ -136,14 +136,18 @@ def plain_file(arguments):
 def table_in(path):
     """The table in a file, as it is stored, and its tasks' names: a file whose name ends in .txt is
     taken as text."""
-    data = read(path)
     if not path.endswith(".txt"):
-        return data, []
+        return read(path), []
+    table = text_in(path, tabletext.table_of)
+    return tabletext.bytes_of(table), tabletext.names_of(table)
+
+
+def text_in(path, described):
+    """What this function says that the text in a file describes; a mistake there is Trouble."""
     try:
-        table = tabletext.table_of(data)
+        return described(read(path))
     except tabletext.Mistake as mistake:
         raise Trouble(str(mistake)) from None
-    return tabletext.bytes_of(table), [task.name for task in table.tasks]
 
 
 def program(name):

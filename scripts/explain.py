@@ -3,7 +3,7 @@
 Says what a table holds, as the text that makes it, and what its plan says: the load of each core,
 its tasks by name, what is left out, the verdict and what to do. FILE is a table of the new form, a
 text if its name ends in .txt, whose comments are the tasks' names, or - for a table on standard
-input.
+input. Lines `A feeds B` of a text are for ./feeds and no part of the table.
 
 --steps N  plans with a step limit of N, up to 4294967295; that of ./run is always 1000000
 --text     prints the text alone, from which ./maketable makes the same bytes

@@ -4,12 +4,15 @@ from functools import reduce
 from itertools import combinations
 from math import gcd
 
+import feedlist
 from tabletext import cores_of, entries, every_core, new_form, old_form, stored_table
 
 LONGEST_PERIOD = 10_000
 LARGEST_MULTIPLE = 1_000_000
+MOST_PAIRS = 64
 
 A_TEXT = "these bytes look like a text: ./maketable TEXT > TABLE makes a table of it"
+A_TEXT_WITH_LINES = "these bytes look like a text: give it a name that ends in .txt"
 AN_OLD_TABLE = "this is a table of the old form: ./move tonew OLD NEW makes a new one of it"
 OLD_ALREADY = "this is a table of the old form already; only ./move tonew takes it"
 NEW_ALREADY = "this is a table of the new form already, and needs no move"
@@ -24,7 +27,7 @@ def words(refused):
     """What the number is and what it says of this table; then what to do, if that is known."""
     meaning, told = CAUSES.get(refused.number, ("see Refusals in README.md", nothing))
     found, advice = told(refused)
-    mixed_up = slip(refused.stored, refused.form, refused.back)
+    mixed_up = refused.slip()
     if mixed_up:
         found, advice = mixed_up, ""
     return f"number {refused.number} ({meaning})" + (f": {found}" if found else ""), advice
@@ -42,15 +45,31 @@ def slip(stored, form="new", back=False):
     return ""
 
 
+def slip_with_list(given):
+    """The same where a dependency list stands behind the table."""
+    table = given[:2 + 8 * given[0]] if given else b""
+    if old_form(table) and feedlist.is_whole(given[len(table):]):
+        return AN_OLD_TABLE
+    found = slip(given)
+    return A_TEXT_WITH_LINES if found == A_TEXT else found
+
+
 class Refused:
     """A refusal, and what the words need of the table. form: the one that the call takes; back:
-    whether the table was to be moved back."""
+    whether the table was to be moved back; listed: the dependency list behind it, None where the
+    call takes none."""
 
-    def __init__(self, number, place, stored, names=(), form="new", back=False):
+    def __init__(self, number, place, stored, names=(), form="new", back=False, listed=None):
         self.number, self.place, self.stored, self.names = number, place, stored, names
-        self.form, self.back = form, back
+        self.form, self.back, self.listed = form, back, listed
         self.head = 4 if form == "new" else 2
         self.sizes = stored[1:3] if form == "new" else stored[:2]
+
+    def slip(self):
+        """What the bytes are, where they are something else than the call takes."""
+        if self.listed is None:
+            return slip(self.stored, self.form, self.back)
+        return slip_with_list(self.stored + self.listed)
 
     def length(self):
         """Of a table with so many tasks."""
@@ -59,16 +78,16 @@ class Refused:
     def periods(self):
         return entries(self.stored, self.head, self.sizes[0])
 
-    def period(self):
-        return self.periods()[self.place - 1]
+    def period(self, k=None):
+        return self.periods()[(self.place if k is None else k) - 1]
 
     def time(self):
         return entries(self.stored, self.head + 4 * self.sizes[0], self.sizes[0])[self.place - 1]
 
     def task(self, k=None):
         """A task by its number, and its name where it has one."""
-        k = k or self.place
-        name = self.names[k - 1] if k <= len(self.names) else ""
+        k = self.place if k is None else k
+        name = self.names[k - 1] if 1 <= k <= len(self.names) else ""
         return f"task {k} ({name})" if name else f"task {k}"
 
 
@@ -214,6 +233,44 @@ def nearest_divisors(period):
     return " or ".join(map(str, below + above))
 
 
+# Numbers 19 to 21, of a dependency list.
+
+def list_shape(r):
+    if not r.listed:
+        return ("there is none behind the table",
+                "give a text with lines `A feeds B`, or put a byte 0 there if there is no pair")
+    k = r.listed[0]
+    if k > MOST_PAIRS:
+        return f"its count is {k}", "a pair counts once, however often it is given"
+    return f"{many(len(r.listed), 'byte')}, and one of {many(k, 'pair')} has {1 + 2 * k}", ""
+
+
+def pair(r):
+    tasks, n = feedlist.pairs_of(r.listed)[r.place - 1], r.sizes[0]
+    found = f"pair {r.place}, {' feeds '.join(map(r.task, tasks))}"
+    for k in tasks:
+        if not 1 <= k <= n:
+            return f"{found}, and there is no task {k}: the table has {many(n, 'task')}", ""
+    if tasks[0] == tasks[1]:
+        return found, "a task cannot stand after itself: take the pair out"
+    periods = [r.period(k) for k in tasks]
+    return (f"{found}, and of their periods {joined(periods)} neither is a multiple of the other",
+            multiples_near(*sorted(periods)))
+
+
+def multiples_near(short, long):
+    """What could stand in place of the longer period."""
+    below = long - long % short
+    near = [str(period) for period in (below, below + short) if period <= LONGEST_PERIOD]
+    return f"{' or '.join(near)} in place of {long} would do"
+
+
+def circle(r):
+    first, *others = feedlist.circle_through(r.place, feedlist.pairs_of(r.listed))
+    fed = [r.task(k) for k in others] + [f"task {first}"]
+    return f"{r.task(first)} feeds {', which feeds '.join(fed)}", "take one of these pairs out"
+
+
 # Numbers and lists in words.
 
 def size(number):
@@ -247,4 +304,7 @@ CAUSES = {
     15: ("a core byte of 0, or with a core that the table does not have", affinity),
     17: ("first byte not 0", first_byte),
     18: ("more than the old form holds", filling),
+    19: ("no dependency list of 0 to 64 pairs", list_shape),
+    20: ("a pair that does not fit", pair),
+    21: ("tasks that feed each other in a circle", circle),
 }

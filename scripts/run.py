@@ -1,7 +1,8 @@
 """usage: ./run [--quick] FILE
 
 Prints the plan of a table, with --quick the quick plan. FILE is a table of the new form, a text if
-its name ends in .txt, or - for a table on standard input.
+its name ends in .txt, or - for a table on standard input. Lines `A feeds B` of a text are for
+./feeds and no part of the table.
 
 Exit status: 0 every task has a core; 3 short, or a quick plan that leaves something out; 4 spent;
 1 refused; 2 usage, input that cannot be read, a mistake in a text, a build that failed, output that

@@ -1,9 +1,10 @@
 """A table and the text that makes it. The text: a line `cores M`; then, on a board that loses time
 when a job is taken up, a line `charge C`, which is 0 if there is none; then for each task a line
-`PERIOD TIME`, or `PERIOD TIME on 1,3` if it may use only cores 1 and 3. `#` begins a comment, in
-any encoding; on a task's line it is the task's name. Whether the numbers are within the limits, and
-whether the cores exist, is the planner's to say; a mistake here is a line that is not of this form,
-or a number that the table has no room for. A core byte has room for cores 1 to 8."""
+`PERIOD TIME`, or `PERIOD TIME on 1,3` if it may use only cores 1 and 3; then lines `A feeds B`,
+which are no part of the table (feedlist.py). `#` begins a comment, in any encoding; on a task's
+line it is the task's name. Whether the numbers are within the limits, and whether the cores exist,
+is the planner's to say; a mistake here is a line that is not of this form, or a number that the
+table has no room for. A core byte has room for cores 1 to 8."""
 
 from collections import namedtuple
 
@@ -11,9 +12,11 @@ MOST_CORES = 8
 MOST_BYTE = 255
 MOST_WORD = 2**32 - 1
 
-# cores: how many the board has; of a task: its core byte. name: empty where there is none.
-Table = namedtuple("Table", "cores charge tasks")
+# cores: how many the board has; of a task: its core byte. name: empty where there is none. feeds:
+# the lines `A feeds B` of a text, each with its number and what stands before a comment.
+Table = namedtuple("Table", "cores charge tasks feeds", defaults=[()])
 Task = namedtuple("Task", "period time cores name")
+Feeds = namedtuple("Feeds", "line content")
 
 
 class Mistake(Exception):
@@ -25,6 +28,10 @@ class Mistake(Exception):
 
 class NoText(Exception):
     """No text makes these bytes."""
+
+
+def names_of(table):
+    return [task.name for task in table.tasks]
 
 
 def every_core(cores):
@@ -39,7 +46,7 @@ def cores_of(byte):
 
 def printable(text, most=60):
     """On one line, whatever it holds."""
-    shown = "".join(c if c.isprintable() else ascii(c)[1:-1] for c in text)
+    shown = "".join(c if c.isprintable() else ascii(c)[1:-1] for c in text[:most + 1])
     return shown if len(shown) <= most else shown[:most] + ".."
 
 
@@ -49,7 +56,7 @@ def table_of(text):
     """The table that this text, as bytes, describes, or a Mistake."""
     if text.startswith(b"\0"):
         raise Mistake(1, "these bytes begin like a table, and not like a text")
-    cores, charge, tasks, last = None, None, [], 0
+    cores, charge, tasks, feeds, last = None, None, [], [], 0
     for last, line in enumerate(unmarked(text).splitlines(), 1):
         content, _, comment = line.partition(b"#")
         words = content.decode("utf-8", "replace").split()
@@ -59,21 +66,41 @@ def table_of(text):
             if len(words) != 2 or words[0] != "cores":
                 raise Mistake(last, "the first line is `cores M`")
             cores = number(words[1], MOST_BYTE, last)
+        elif "feeds" in words:
+            must_be_feeds(words, tasks, last)
+            feeds.append(Feeds(last, content))
         elif words[0] == "charge":
             if len(words) != 2 or charge is not None or tasks:
                 raise Mistake(last, "one line `charge C` may stand before the tasks")
             charge = number(words[1], MOST_BYTE, last)
-        elif len(words) == 2 or len(words) > 3 and words[2] == "on":
-            period, time = [number(word, MOST_WORD, last) for word in words[:2]]
-            byte = core_byte(words[3:], last) if words[2:] else every_core(cores)
-            tasks.append(Task(period, time, byte, name_in(comment)))
+        elif feeds:
+            raise Mistake(last, "after a line `A feeds B` there are only such lines")
         else:
-            raise Mistake(last, "a task's line is `PERIOD TIME` or `PERIOD TIME on CORE,CORE`")
+            tasks.append(task_in(words, comment, cores, last))
         if len(tasks) > MOST_BYTE:
             raise Mistake(last, f"a table has room for {MOST_BYTE} tasks at most")
     if cores is None:
         raise Mistake(last + 1, "there is no line `cores M`")
-    return Table(cores, charge or 0, tasks)
+    return Table(cores, charge or 0, tasks, feeds)
+
+
+def task_in(words, comment, cores, line):
+    if len(words) != 2 and (len(words) < 4 or words[2] != "on"):
+        raise Mistake(line, "a task's line is `PERIOD TIME` or `PERIOD TIME on CORE,CORE`")
+    period, time = [number(word, MOST_WORD, line) for word in words[:2]]
+    byte = core_byte(words[3:], line) if words[2:] else every_core(cores)
+    return Task(period, time, byte, name_in(comment))
+
+
+def must_be_feeds(words, tasks, line):
+    """A Mistake if this is no line `A feeds B`. Which tasks they are is not asked here; but a
+    task's line must not pass for one, since the task would be missing from the table."""
+    if all(map(is_number, words[:2])):
+        raise Mistake(line, "a line that begins with two numbers is a task's, and has no `feeds`")
+    if "feeds" not in words[1:-1]:
+        raise Mistake(line, "in `A feeds B` a task stands on either side")
+    if not tasks:
+        raise Mistake(line, "lines `A feeds B` follow the tasks")
 
 
 def unmarked(text):
@@ -83,14 +110,18 @@ def unmarked(text):
     return text[3:] if text.startswith(b"\xef\xbb\xbf") else text
 
 
+def is_number(word):
+    return word.isascii() and word.isdigit()
+
+
 def number(word, most, line):
     if not word:
         raise Mistake(line, "a number is missing")
-    if not (word.isascii() and word.isdigit()):
+    if not is_number(word):
         raise Mistake(line, f"`{printable(word)}` is no number")
     word = word.lstrip("0") or "0"
     if len(word) > len(str(most)) or int(word) > most:
-        raise Mistake(line, f"{printable(word)} is above {most}, the most a table has room for")
+        raise Mistake(line, f"{printable(word)} is above {most}, the most there is room for")
     return int(word)
 
 

@@ -8,7 +8,7 @@ from os.path import abspath, dirname, join
 
 ROOT = dirname(dirname(dirname(abspath(__file__))))
 DONE, REFUSED, TROUBLE, SHORT, SPENT = 0, 1, 2, 3, 4
-SCRIPTS = ("./run", "./move", "./maketable", "./explain")
+SCRIPTS = ("./run", "./move", "./maketable", "./explain", "./feeds")
 
 
 class Case:

@@ -1,4 +1,4 @@
-"""Holds `run`, `move`, `maketable` and `explain` to what they say they do.
+"""Holds `run`, `move`, `maketable`, `explain` and `feeds` to what they say they do.
 
 usage: python3 tests/scripts/hold.py GROUP SEED, where a group is a module beside this one
 """

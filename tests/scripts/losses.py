@@ -8,7 +8,7 @@ from case import (DONE, REFUSED, ROOT, SCRIPTS, SHORT, TROUBLE, Case, check, con
                   must, surroundings)
 
 OLD, NEW = content("examples/old/watch.table"), content("examples/watch.table")
-PLAN = content("examples/watch.plan")
+PLAN, ORDER = content("examples/watch.plan"), content("examples/feeds.order")
 
 
 def cases(_, folder):
@@ -64,6 +64,8 @@ def elsewhere(folder):
     yield Case(["./move", "toold", "watch 1.table"], DONE, OLD, **here)
     yield Case(["./maketable", join(ROOT, "examples", "watch.txt")], DONE, NEW, **here)
     yield Case(["./explain", "watch 1.table"], SHORT, holds("short 5 5"), **here)
+    yield Case(["./feeds", join(ROOT, "examples", "feeds.txt")], DONE, ORDER, **here)
+    yield Case(["../feeds", "feeds.txt"], DONE, ORDER, **there)
 
 
 def pipes():
@@ -71,3 +73,5 @@ def pipes():
     yield Case("./run <(./maketable examples/watch.txt)", SHORT, PLAN)
     yield Case("./move tonew <(cat examples/old/watch.table)", DONE, NEW)
     yield Case("./explain --text <(cat examples/watch.table) | ./maketable", DONE, NEW)
+    yield Case("cat examples/feeds.table examples/feeds.list | ./feeds -", DONE, ORDER)
+    yield Case("./feeds <(./maketable examples/feeds.txt; cat examples/feeds.list)", DONE, ORDER)

@@ -41,6 +41,11 @@ def other_answers():
     yield Case(["./maketable", "examples/watch.txt"], DONE, table)
     yield Case(["./maketable"], DONE, table, given=text)
     yield Case(["./maketable", "-"], DONE, table, given=text)
+    for name, status, said in (("feeds", DONE, ()), ("circle", REFUSED, ["number 21", "task 5"])):
+        order = content(f"examples/{name}.order")
+        stored = content(f"examples/{name}.table") + content(f"examples/{name}.list")
+        yield Case(["./feeds", f"examples/{name}.txt"], status, order, said)
+        yield Case(["./feeds", "-"], status, order, said, given=stored)
 
 
 def usages():
@@ -51,6 +56,7 @@ def usages():
         "./maketable": (["a", "b"], ["-x"]),
         "./explain": ([], ["--steps"], ["--steps", "x", "a"], ["--steps", "5"], ["--text"],
                       ["--text", "a", "b"]),
+        "./feeds": ([], ["a", "b"], ["-x"], ["--text", "a"]),
     }
     for script, arguments in wrong.items():
         for words in arguments:
@@ -68,10 +74,11 @@ def starts_with(words):
 
 def unreadable(folder):
     for command in (["./run"], ["./run", "--quick"], ["./move", "tonew"], ["./maketable"],
-                    ["./explain"], ["./explain", "--text"]):
+                    ["./explain"], ["./explain", "--text"], ["./feeds"]):
         yield Case([*command, join(folder, "missing")], TROUBLE, said=["missing: No such file"])
         yield Case([*command, folder], TROUBLE, said=["Is a directory"])
-    for command in ("./run -", "./move tonew -", "./maketable"):
+    yield Case(["./feeds", join(folder, "missing.txt")], TROUBLE, said=["missing.txt: No such"])
+    for command in ("./run -", "./move tonew -", "./maketable", "./feeds -"):
         yield Case(f"{command} <&-", TROUBLE, said=["standard input"])
     yield Case("./run - < examples", TROUBLE, said=["standard input"])
 
@@ -81,9 +88,11 @@ def unwritable():
                     "./run --quick examples/tight.table", "./run examples/refused.table",
                     "./move tonew examples/old/watch.table", "./maketable examples/watch.txt",
                     "./explain examples/watch.table", "./explain examples/refused.table",
-                    "./explain --text examples/watch.table"):
+                    "./explain --text examples/watch.table", "./feeds --help",
+                    "./feeds examples/feeds.txt", "./feeds examples/circle.txt"):
         yield Case(f"{command} > /dev/full", TROUBLE, said=["standard output: No space left"])
-    yield Case("./run examples/tight.table >&-", TROUBLE, said=["standard output"])
+    for command in ("./run examples/tight.table", "./feeds examples/feeds.txt"):
+        yield Case(f"{command} >&-", TROUBLE, said=["standard output"])
     # A pipe that nobody reads.
     yield Case("(sleep 0.3; ./explain examples/tight.table; echo $? >&2) | true", DONE,
                said=["standard output: Broken pipe\n2\n"], lines=2)

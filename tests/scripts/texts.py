@@ -30,8 +30,8 @@ def cases(rng, folder):
     for k in range(12):
         garbage = made(folder, f"garbage{k}", rng.randbytes(rng.randrange(2000)))
         yield Case(["./maketable", garbage], REFUSED, b"", ["line "])
-        planner = rng.choice(["./run", "./explain"])
-        yield Case([planner, garbage], REFUSED, holds("refused "), ["number "])
+        script = rng.choice(["./run", "./explain", "./feeds"])
+        yield Case([script, garbage], REFUSED, holds("refused "), ["number "])
     yield Case("head -c 3000000 /dev/zero | ./maketable", REFUSED, b"", ["line 1: "])
     yield Case(["./run", "/dev/zero"], REFUSED, b"refused 2 0\n", ["number 2 "])
 

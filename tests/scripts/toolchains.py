@@ -1,5 +1,6 @@
 """A toolchain that is missing, that fails, or that is another than the one pinned, in a copy of the
-sources with nothing built. A stand-in for `rt` says its version, and builds or does not."""
+sources with nothing built; and a program that does not answer. A stand-in for `rt` says its
+version, and builds or does not."""
 
 import os
 import shutil
@@ -8,7 +9,7 @@ from os.path import isdir, join
 
 from case import ROOT, SHORT, TROUBLE, Case, check, content, made, surroundings
 
-PARTS = ("run", "move", "maketable", "explain", "scripts", "toolchain.txt", "crates.txt",
+PARTS = ("run", "move", "maketable", "explain", "feeds", "scripts", "toolchain.txt", "crates.txt",
          "crates/numbers", "crates/millplan")
 TOOLS = ("bash", "env", "dirname", "realpath", "head", "find", "tee", "sed", "mkdir", "touch", "mv",
          "tail", "cp")
@@ -23,15 +24,21 @@ def cases(_, folder):
     linked(tools)
     where = {"cwd": copy, **surroundings(PATH=tools)}
     check([Case([*command, TABLE], TROUBLE, b"", ["rt, the Rattle toolchain"], **where)
-           for command in (["./run"], ["./explain"], ["./move", "tonew"])])
+           for command in (["./run"], ["./explain"], ["./move", "tonew"], ["./feeds"])])
     check([Case(["./run", "missing"], TROUBLE, b"", ["missing: No such file"], **where)])
     stand_in(tools, "another", "echo 'a proof fails'; exit 1")
-    check([Case(["./run", TABLE], TROUBLE, b"", [OTHER, "another", "a proof fails"], 3, **where)])
+    check([Case([script, TABLE], TROUBLE, b"", [OTHER, "another", "a proof fails"], 3, **where)
+           for script in ("./run", "./feeds")])
     stand_in(tools, "another", f"mkdir -p target/bin; cp '{ROOT}'/target/bin/millplan target/bin")
     check([Case(["./run", TABLE], SHORT, PLAN, [OTHER, "proving and building"], 2, **where)])
     check([Case(["./run", TABLE], SHORT, PLAN, [OTHER, "another"], **where)])
     stand_in(tools, content("toolchain.txt").decode().strip(), "exit 1")
     check([Case(["./run", TABLE], SHORT, PLAN, **where)])
+    # A program that says nothing, or fails.
+    for other, said in (("true", "feeds did not answer"), ("false", "feeds ended with 1")):
+        shutil.copy(shutil.which(other), join(copy, "target", "bin", "feeds"))
+        made(copy, "target/feeds.checked", b"")
+        check([Case(["./feeds", TABLE], TROUBLE, b"", [said], **where)])
     # What is built needs none.
     os.unlink(join(tools, "rt"))
     check([Case(["./run", TABLE], SHORT, PLAN, **where)])
