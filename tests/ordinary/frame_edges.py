@@ -8,8 +8,9 @@ import subprocess
 import sys
 
 import frame
-from calls import (ceiling, core, plan, quick, read, read_setup, tick, to_new, to_old,
+from calls import (ceiling, core, dependencies, plan, quick, read, read_setup, tick, to_new, to_old,
                    write_setup)
+from dependency_samples import list_of
 from samples import LARGEST_WORD, setup_of, table_of
 from ticks import EMPTY, Record, Slot
 
@@ -21,7 +22,8 @@ SETUP = setup_of(2, 0, [4, 8], [1, 3], [3, 3])
 FIELDS = 1, 2, 1, [4] * 16, [1] * 16, bytes([3] * 16)
 
 # A small input of each call, of a fresh core one accepted, one refused and one without a tick; of
-# the writer and the moves one with an output that is too short.
+# the writer and the moves one with an output that is too short; of the dependency check one with a
+# circle and one without a list.
 SMALL = [
     (read, (ROW_C,)),
     (plan, (table_of(2, [10] * 3, [7, 6, 4]), 1, bytes([1, 1, 2]), 6)),
@@ -38,6 +40,9 @@ SMALL = [
     (to_new, (FOUR_EIGHT, bytes(21))),
     (to_old, (SETUP, bytes(20))),
     (to_old, (SETUP, b"")),
+    (dependencies, (SETUP, list_of([(2, 1)]))),
+    (dependencies, (SETUP, list_of([(2, 1), (1, 2)]))),
+    (dependencies, (SETUP, b"")),
 ]
 GOOD = frame.case(read.CODE, [ROW_C])
 
@@ -80,7 +85,8 @@ def unknown_codes():
 
 def wrong_lengths():
     """Each block of each small input with another length, followed by a case that is not reached;
-    and the longest block that a table, a row of core bytes, a placement or an output may have."""
+    and the longest block that a table, a row of core bytes, a placement, an output or a list may
+    have."""
     for call, given in SMALL:
         contents = call.contents(*given)
         for k, content in enumerate(contents):
@@ -98,7 +104,8 @@ def wrong_lengths():
                         (quick, (longest, 9, row)), (ceiling, (longest, 9, row)),
                         (read_setup, (setup,)), (write_setup, (*FIELDS, row)),
                         (to_new, (longest, row)), (to_new, (FOUR_EIGHT, row)),
-                        (to_old, (setup, row)), (to_old, (SETUP, row))):
+                        (to_old, (setup, row)), (to_old, (SETUP, row)),
+                        (dependencies, (setup, row)), (dependencies, (SETUP, row))):
         yield frame.case(call.CODE, call.contents(*given)) + GOOD, (
             standing(call, given, call.HEAD) + standing(read, (ROW_C,), 1))
 

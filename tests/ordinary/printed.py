@@ -1,6 +1,7 @@
 """Holds what a program prints to what the ordinary programs say, byte for byte. The program's name
 says which it is: millplan prints the exact plan of a set-up and quickplan the quick one; tonew
-moves a table to the new form and toold a set-up back, and say a refusal on standard error.
+moves a table to the new form and toold a set-up back, and say a refusal on standard error; feeds
+prints the order of a set-up's tasks by the dependency list behind it.
 
 usage: python3 printed.py SEED COUNT PROGRAM
 """
@@ -11,15 +12,18 @@ from collections import namedtuple
 from os.path import basename
 from random import Random
 
+from dependencies import check_dependencies
+from dependency_samples import (damaged_dependencies, dependency_edges, list_of,
+                                random_dependencies, setup_with)
 from plans import USUAL_LIMIT, plan
 from quick_plans import quick_plan
 from samples import (charges, core_byte_edges, damaged, entries, first_fits, hyperperiods,
-                     lowest_permitted, paper_rows, random_table, shapes, telling_tables,
+                     lowest_permitted, paper_rows, put, random_table, shapes, telling_tables,
                      tied_boards, untied)
 from setup_samples import (damaged_setup, old_tables, random_board, setup_faults, setup_from,
                            setup_rows, setup_shapes, setups_from)
 from setups import board_in, move_back, move_to_new, read_setup
-from tables import Refusal, every_core
+from tables import MOST_TASKS, Refusal, every_core
 
 WORDS = ["all", "short", "spent"]
 
@@ -82,6 +86,23 @@ def moved(answer):
     return answer.out[:answer.length], b""
 
 
+def order_report(data):
+    setup, listed = parted(data)
+    answer = check_dependencies(setup, listed)
+    if answer.number > 0:
+        return text([("refused", answer.number, answer.place)]), b""
+    return text([answer.order[:setup[1]]]), b""
+
+
+def parted(data):
+    """The set-up and the list behind it. Its number of tasks says where it ends; without one that
+    is allowed, all is the set-up."""
+    if len(data) < 2 or not 1 <= data[1] <= MOST_TASKS:
+        return data, b""
+    length = 4 + 9 * data[1]
+    return data[:length], data[length:]
+
+
 def text(lines):
     return "".join(" ".join(map(str, line)) + "\n" for line in lines).encode()
 
@@ -124,6 +145,23 @@ def tables(rng, count):
             + [damaged(rng, random_board(rng)[0]) for _ in range(count)])
 
 
+def fed_setups(rng, count):
+    """Set-ups with a list behind them, at every edge of either, and random ones; every beginning of
+    one; numbers of tasks that are not allowed; the longest, and inputs longer than the program
+    reads."""
+    small = setup_with([10, 20, 10], 3) + list_of([(3, 1), (3, 2)])
+    sixteen = setup_with([20] * 16, 7)
+    longest = sixteen + list_of([(16, 1)] * 64)
+    ends = [sixteen, sixteen + bytes(1), sixteen + bytes(131), small + bytes(5000), longest[:-1],
+            longest, *(longest + bytes(more) for more in (1, 2, 3, 5000))]
+    drawn = [random_dependencies(rng) if k % 3 else damaged_dependencies(rng)
+             for k in range(count)]
+    return ([small[:length] for length in range(len(small) + 1)]
+            + [bytes(put(small, 1, n)) for n in (0, 1, 2, 4, 16, 17, 128, 255)]
+            + [setup + listed for setup, listed in dependency_edges() + drawn]
+            + ends + long_setups(rng))
+
+
 def long_setups(rng):
     """The longest set-up, and inputs longer than the program reads."""
     table = random_table(rng, 16, 1)
@@ -138,6 +176,7 @@ PROGRAMS = {
     "quickplan": Program(149, quick_report, many_setups),
     "tonew": Program(131, moved_to_new, tables),
     "toold": Program(149, moved_back, fillings),
+    "feeds": Program(278, order_report, fed_setups),
 }
 
 if __name__ == "__main__":

@@ -2,9 +2,11 @@
 Where no charge is given it is 0, and where no core bytes are given every core is permitted."""
 
 from ceilings import step_ceiling
+from dependencies import check_dependencies
+from dependency_samples import list_of
 from samples import LARGEST_WORD, put, setup_of, stretched, table_of, telling_tables
 from plans import ALL, SHORT, SPENT, USUAL_LIMIT, plan
-from printed import exact_report, moved_back, moved_to_new, quick_report
+from printed import exact_report, moved_back, moved_to_new, order_report, quick_report
 from quick_plans import quick_plan
 from setups import move_back, move_to_new, read_setup, write_setup
 from tables import Refusal, every_core, read_board, read_table
@@ -111,6 +113,23 @@ def tied(charge, at=0, entry=None):
     m, periods, budgets, core_bytes = TIED
     setup = setup_of(m, charge, periods, budgets, core_bytes)
     return setup if entry is None else bytes(put(setup, at, entry))
+
+
+def four(periods=(10,) * 4):
+    """A set-up of four tasks with these periods, a charge and tied tasks."""
+    return setup_of(2, 1, periods, [1, 2, 3, 1], [3, 1, 2, 3])
+
+
+def fed(*pairs, periods=(10,) * 4):
+    """The order of these four tasks in which each comes after those that feed it, or number and
+    place."""
+    number, place, order = check_dependencies(four(periods), list_of(pairs))
+    return order[:4] if number == 0 else (number, place)
+
+
+def counted(*lists):
+    """Number and place of each of these lists of the four tasks."""
+    return [check_dependencies(four(), bytes(listed))[:2] for listed in lists]
 
 
 DIFFERING = 2, [10] * 6, [5, 4, 3, 3, 3, 2]
@@ -295,6 +314,37 @@ ROWS = {
                                    == [(2, 0, 0)] * 2 + [(3, 0, 0)] + [(13, 0, 0)] * 2,
     "beyond n": written((0, 2))[:3] == (0, 0, 22) and written((0, 4))[:3] == (5, 4, 0)
                 and written((0, 17))[:3] == (2, 0, 0),
+    # With tasks that feed each other.
+    "lowest ready first": fed((4, 1), (3, 2)) == [3, 2, 4, 1],
+    "on the circle": fed((3, 4), (4, 3), (3, 1)) == (21, 3),
+    "20 before 21": fed((1, 3), (3, 1), (2, 2)) == (20, 3),
+    "repeated pairs are counted": fed((1, 2), (1, 2), (0, 1)) == (20, 3),
+    "once": fed((4, 1), (3, 2), (4, 1), (4, 1)) == [3, 2, 4, 1],
+    "no pairs": fed() == [1, 2, 3, 4]
+                and check_dependencies(NEW_LISTING, bytes(1)) == (0, 0, [1, 2, 3] + [0] * 13),
+    "becomes ready": fed((3, 1)) == [2, 3, 1, 4] and fed((4, 2), (2, 1)) == [3, 4, 2, 1],
+    "circles": fed((2, 4), (4, 2)) == (21, 2) and fed((1, 2), (2, 3), (3, 4), (4, 1)) == (21, 1)
+               and fed((1, 2), (2, 3), (3, 2), (3, 4)) == (21, 2)
+               and fed((4, 3), (3, 4), (4, 1), (2, 1)) == (21, 3),
+    "periods of a pair": fed((1, 2), (2, 1), periods=[4, 12, 4, 6]) == (21, 1)
+                         and fed((4, 2), (2, 1), periods=[4, 12, 4, 6]) == [3, 4, 2, 1]
+                         and fed((3, 1), (4, 1), (0, 0), periods=[4, 12, 4, 6]) == (20, 2)
+                         and fed((1, 4), periods=[4, 12, 4, 6]) == (20, 1),
+    "no task's": [fed((1, 2), pair) for pair in ((0, 1), (5, 1), (1, 0), (1, 255), (4, 4))]
+                 == [(20, 2)] * 5,
+    "list": counted([], [0], [0, 0], [1, 1], [1, 1, 2], [1, 1, 2, 0], [2, 1, 1, 2, 3],
+                    [64, *[1] * 64, *[2] * 64], [65, *[1] * 65, *[2] * 65], [128], [1, 0])
+            == [(19, 0), (0, 0), (19, 0), (19, 0), (0, 0), (19, 0), (0, 0), (0, 0)] + [(19, 0)] * 3,
+    "feeding, then fed": counted([2, 1, 2, 3, 3], [2, 1, 2, 2, 2], [2, 4, 4, 4, 1])
+                         == [(0, 0), (20, 2), (20, 1)],
+    "19 after the table's": [check_dependencies(tied(charge), b"") for charge in (5, 6, 10)]
+                            == [(19, 0, [0] * 16), (14, 1, [0] * 16), (13, 0, [0] * 16)],
+    "order, printed": order_report(four() + bytes([2, 4, 3, 1, 2])) == (b"3 2 4 1\n", b"")
+                      and order_report(four() + bytes([1, 4, 4])) == (b"refused 20 1\n", b"")
+                      and order_report(four()) == (b"refused 19 0\n", b"")
+                      and order_report(four()[:-1]) == (b"refused 4 0\n", b"")
+                      and order_report(bytes([0, 17, 1, 0, 0])) == (b"refused 2 0\n", b"")
+                      and order_report(b"") == (b"refused 1 0\n", b""),
 }
 
 if __name__ == "__main__":

@@ -11,7 +11,8 @@
 
 A further call is a further module, named here."""
 
-from calls import (ceiling, core, plan, quick, read, read_setup, tick, to_new, to_old,
+from calls import (ceiling, core, dependencies, plan, quick, read, read_setup, tick, to_new, to_old,
                    write_setup)
 
-CALLS = [read, plan, core, tick, quick, ceiling, read_setup, write_setup, to_new, to_old]
+CALLS = [read, plan, core, tick, quick, ceiling, read_setup, write_setup, to_new, to_old,
+         dependencies]
