@@ -15,6 +15,7 @@ use Rattle.planner.specs.Plan.{verdictOutcome}
 use Rattle.planner.specs.declared.Allocation.{Allocation}
 use Rattle.quick.specs.declared.QuickPlan.{QuickPlan}
 use Rattle.ceiling.specs.declared.StepCeiling.{StepCeiling}
+use Rattle.dependencies.specs.declared.TaskOrder.{TaskOrder}
 use Rattle.edf.specs.declared.Slot.{Slot}
 use Rattle.start.specs.declared.Started.{Started}
 use Rattle.runner.specs.declared.Core.{Core}
@@ -25,7 +26,7 @@ use Rattle.decimal.specs.Joined.{joined, fields}
 use Rattle.text.specs.Shown.{shown, Appended}
 use Rattle.text.specs.declared.Text.{Text}
 use Rattle.text.proofs.ClipLaws.{append-both, append-within, append-whole}
-use Rattle.caselines.specs.Lines.{outcomeFields, slotFields, recordFields, sizeFields, taskNumbers, taskFields, tableLine, verdictNumber, planLine, coreLine, tickLine, recordLine, quickLine, ceilingLine, boardFields, rowFields, newLine}
+use Rattle.caselines.specs.Lines.{outcomeFields, slotFields, recordFields, sizeFields, taskNumbers, taskFields, tableLine, verdictNumber, planLine, coreLine, tickLine, recordLine, quickLine, ceilingLine, boardFields, rowFields, newLine, orderLine}
 
 -- number and place
 module _ {t r : Text} {o : Outcome} where
@@ -122,3 +123,9 @@ pub new-whole : {t a b d line : Text} (r : Reading) {o : Outcome} → shown t �
     → shown line ≡ newLine r
 unfolding newLine
 new-whole r e i p q u v = append-whole e (append-both (append-both (append-both (rw (sym i) at p) q) u) v) (omega arith)
+
+-- an order of the tasks
+pub order-whole : {t a b line : Text} (answer : TaskOrder) {o : Outcome} → shown t ≡ [] → answer .outcome ≡ o → Appended t (outcomeFields o) 41 a
+    → Appended a (fields (answer .order)) 336 b → Appended b (ascii "\n") 1 line → shown line ≡ orderLine answer
+unfolding orderLine
+order-whole answer e i p q u = append-whole e (append-both (append-both (rw (sym i) at p) q) u) (omega arith)

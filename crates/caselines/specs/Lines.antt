@@ -20,6 +20,7 @@ use Rattle.quick.specs.declared.QuickPlan.{QuickPlan}
 use Rattle.ceiling.specs.declared.StepCeiling.{StepCeiling}
 use Rattle.edf.specs.declared.Slot.{Slot}
 use Rattle.storing.specs.declared.Transfer.{Transfer}
+use Rattle.dependencies.specs.declared.TaskOrder.{TaskOrder}
 use Rattle.start.specs.declared.Started.{Started}
 use Rattle.runner.specs.declared.Core.{Core}
 use Rattle.runner.specs.declared.Ticked.{Ticked}
@@ -102,3 +103,7 @@ answerStart a = outcomeFields (a .outcome) ++ field (a .length)
 
 abbrev pub piece : List ℕ → List ℕ
 piece left = fields (take 100 left)
+
+-- code 11: the order of tasks that feed each other
+unfoldable pub orderLine : TaskOrder → List ℕ
+orderLine a = outcomeFields (a .outcome) ++ fields (a .order) ++ ascii "\n"

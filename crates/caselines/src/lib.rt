@@ -3,6 +3,7 @@ pub mod ceilings;
 pub mod cores;
 pub mod lines;
 pub mod newtables;
+pub mod orders;
 pub mod outputs;
 pub mod plans;
 pub mod quicks;

@@ -34,7 +34,7 @@ pub fn append_row(t: Text, row: [u32; 16]) -> Text
     longer
 }
 
-// Sixteen core numbers or core bytes.
+// Sixteen core numbers, core bytes or task numbers.
 pub fn append_cores(t: Text, cores: [u8; 16]) -> Text
     ensures { λ r. ⌜ Appended t (fields cores) 336 r ⌝ }
 {

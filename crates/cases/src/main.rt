@@ -237,6 +237,18 @@ fn run_move(code: u8, table: &[u8]) -> bool {
     move_table(code, table, &mut out[..n])
 }
 
+// Reads a dependency list, checks it beside a table and prints the line; false where the case is not whole or the output fails.
+fn run_dependencies(table: &[u8]) -> bool {
+    let mut list = [0u8; 1024];
+    let block = caseblocks::read_block(&mut list);
+    if !block.whole {
+        return false;
+    }
+    let n = block.length;
+    let answer = dependencies::check_dependencies(table, &list[..n]);
+    console::show(caselines::orders::order_line(answer)).whole
+}
+
 // Runs a case whose first blocks were this table, this charge and these core bytes; false where there is no such code, the case is not
 // whole, or the output fails.
 fn run_permitted(code: u8, table: &[u8], charge: u32, cores: &[u8]) -> bool {
@@ -275,6 +287,7 @@ fn run_on(code: u8, table: &[u8]) -> bool {
         1 => run_table(table),
         7 => run_setup(table),
         9 | 10 => run_move(code, table),
+        11 => run_dependencies(table),
         _ => run_on_board(code, table),
     }
 }
