@@ -2,4 +2,5 @@ pub mod DemandLaws
 pub mod ChainLaws
 pub mod UnchargedLaws
 pub mod FormLaws
+pub mod FeedLaws
 pub mod RowLaws

@@ -45,11 +45,19 @@ use Rattle.listing.specs.Lines.{refusalLine, sizesLine, taskLine, taskLines, ta
 use Rattle.listing.specs.Printed.{printed}
 use Rattle.report.specs.Output.{verdictWord, summaryLine, planLines, outputOf}
 use Rattle.quickreport.specs.Output.{quickSummary, quickLines, quickOutputOf}
-use Rattle.guarantees.specs.Rows.{moves, newTables, ties, charges, emptyCores, quicks, more, rows, AllHold, WorkedRows}
+use Rattle.precedence.specs.Circles.{through, reach, circular}
+use Rattle.precedence.specs.Sequence.{stands, holdsUp, waits, isReady, nextTask, withNext, ordered}
+use Rattle.pairs.specs.Pairs.{feeding, fed, malformed, multiple, periodOf, saidBy, feeds as feedsOf, unfit as unfitOf}
+use Rattle.feeding.specs.Tests.{unfitAt}
+use Rattle.dependencies.specs.Order.{refusedOrder, orderFor, orderBy, orderOf as taskOrderOf}
+use Rattle.decimal.specs.Joined.{joined}
+use Rattle.feedsreport.specs.Split.{noCount, tooFew, splitAt, tableIn, listIn}
+use Rattle.feedsreport.specs.Output.{orderLine, orderOutputOf, feedsOutputOf}
+use Rattle.guarantees.specs.Rows.{feeds, moves, newTables, ties, charges, emptyCores, quicks, more, rows, AllHold, WorkedRows}
 
 -- every definition that a row computes by, under one name
 unfoldable opened : ℕ
-unfolding byOutcome beside new shapeOutcome startFor ceilingFor refusedCeiling first firstFrom row tab upTo sumOver sumTo productTo euclid gcd lcm lcms insert sorted position scatter demandOn _then_ refuseIf refuseAt inOrder wordAt byteAt oldBytes newBytes fieldsOutcome otherByte besideFields newFields newOutcome lowestPermitted noTasks refusedReading multipleTo hyperperiodOf demandOf badPeriod badBudget badCost exceeds taskSetOf acceptedReading readingBy readingOf precedes twins isEmpty someEmptyTwin tried xor permitted permittedCount allowed unfit everyCore everyAffinity badAffinity barredAt someTied factorFor sumOfProducts upFrom choices stepInto storedAfter boundAfter entered tryAll visit trace stored answer tableAnswer tableProblem orderOf verdictOf allocationOf planFor refusedPlan planBy planOf verdictOutcome slotTest firstSlot owedFor release releaseAll chosen advanceAll stepped refusedTick tick freshSlot freshSlots aboveAt refusedStart startBy placingOutcome startOf front digitsBy decimal field refusalLine sizesLine taskLine taskLines tableLines verdictWord summaryLine planLines printed outputOf lowestFit fitFrom firstFit tableFit quickPlacement quickFor refusedQuick quickBy quickOf stepCeiling ceilingBy ceilingOf quickSummary quickLines quickOutputOf formOutcome oldOutcome alone transferBy exitBy transferAfter exitAfter written returned loadOn
+unfolding byOutcome beside new shapeOutcome startFor ceilingFor refusedCeiling first firstFrom row tab upTo sumOver sumTo productTo euclid gcd lcm lcms insert sorted position scatter demandOn _then_ refuseIf refuseAt inOrder wordAt byteAt oldBytes newBytes fieldsOutcome otherByte besideFields newFields newOutcome lowestPermitted noTasks refusedReading multipleTo hyperperiodOf demandOf badPeriod badBudget badCost exceeds taskSetOf acceptedReading readingBy readingOf precedes twins isEmpty someEmptyTwin tried xor permitted permittedCount allowed unfit everyCore everyAffinity badAffinity barredAt someTied factorFor sumOfProducts upFrom choices stepInto storedAfter boundAfter entered tryAll visit trace stored answer tableAnswer tableProblem orderOf verdictOf allocationOf planFor refusedPlan planBy planOf verdictOutcome slotTest firstSlot owedFor release releaseAll chosen advanceAll stepped refusedTick tick freshSlot freshSlots aboveAt refusedStart startBy placingOutcome startOf front digitsBy decimal field refusalLine sizesLine taskLine taskLines tableLines verdictWord summaryLine planLines printed outputOf lowestFit fitFrom firstFit tableFit quickPlacement quickFor refusedQuick quickBy quickOf stepCeiling ceilingBy ceilingOf quickSummary quickLines quickOutputOf formOutcome oldOutcome alone transferBy exitBy transferAfter exitAfter written returned loadOn through reach circular stands holdsUp waits isReady nextTask withNext ordered feeding fed malformed multiple periodOf saidBy feedsOf unfitOf unfitAt refusedOrder orderFor orderBy taskOrderOf joined noCount tooFew splitAt tableIn listIn orderLine orderOutputOf feedsOutputOf
 opened = 0
 
 base-hold : AllHold rows
@@ -84,6 +92,10 @@ moves-hold : AllHold moves
 unfolding opened moves
 moves-hold = ((refl, refl), ((refl, refl), ((refl, refl), ((refl, refl), (((refl, refl), refl, refl), (((refl, refl), refl, refl), (((refl, refl), refl, refl), (((refl, refl), refl, refl), (((refl, refl), refl, refl), (((refl, refl), refl, refl), (((refl, refl), refl, refl), (((refl, refl), refl, refl), (((refl, refl), refl, refl), (((refl, refl), refl, refl), (((refl, refl), refl, refl), tt)))))))))))))))
 
+feeds-hold : AllHold feeds
+unfolding opened feeds
+feeds-hold = (refl, (((refl, refl), refl), (((refl, refl), refl), (((refl, refl), refl), (refl, (refl, (((refl, refl), refl), (((refl, refl), refl), (((refl, refl), refl), (refl, (((refl, refl), refl), (((refl, refl), refl), (((refl, refl), refl), (((refl, refl), refl), (((refl, refl), refl), (((refl, refl), refl), (((refl, refl), refl), (((refl, refl), refl), (refl, (refl, (refl, (refl, tt))))))))))))))))))))))
+
 pub rows-hold : WorkedRows
 rows-hold = record {
   base = base-hold;
@@ -94,4 +106,5 @@ rows-hold = record {
   core-bytes = ties-hold;
   new-form = newTables-hold;
   moved-tables = moves-hold;
+  feeding-tasks = feeds-hold;
 }

@@ -1,4 +1,5 @@
 pub mod Demands
 pub mod Chain
 pub mod Forms
+pub mod Feeding
 pub mod Rows

@@ -24,6 +24,8 @@ use Rattle.planner.specs.declared.Verdict.the-variants.{All, Short, Spent}
 use Rattle.quick.specs.Quick.{quickOf}
 use Rattle.ceiling.specs.Ceiling.{ceilingOf}
 use Rattle.quickreport.specs.Output.{quickOutputOf}
+use Rattle.dependencies.specs.Order.{orderOf as taskOrderOf}
+use Rattle.feedsreport.specs.Output.{feedsOutputOf}
 use Rattle.edf.specs.declared.Slot.{Slot}
 use Rattle.edf.specs.Slots.{emptySlot}
 use Rattle.edf.specs.Guarantee.{runs}
@@ -60,8 +62,8 @@ outAfter call out = exitOf Buffer (bytesFor call) (tableFor call) out
 -- a step ceiling; a refusal with its number and place; a fresh core's slots, or its refusal; the tasks run by the ticks of a fresh core; one tick of
 -- given slots, with the task run, the late task and the next slots, or its refusal's place. Of tables in the new form: their fields and hyperperiod, or
 -- the refusal of the reader; a stored table's length and the output, or the refusal, which leaves the output; the whole output of the program, and
--- that of the quick one; the lines of a table and an answer that is given by hand. Last, a row of the calls before these on a board with a charge, and
--- one with core bytes.
+-- that of the quick one; the lines of a table and an answer that is given by hand; a dependency list's order, or its refusal, which gives zeros; the
+-- whole output of the program for a table and a list. Last, a row of the calls before these on a board with a charge, and one with core bytes.
 pub data Row : Type 0 where
   frames : List ℕ → ℕ → Row
   plans : List ℕ → ℕ → Verdict → List ℕ → ℕ → ℕ → Row
@@ -80,6 +82,9 @@ pub data Row : Type 0 where
   prints : List ℕ → String → Row
   printsQuick : List ℕ → String → Row
   lists : List ℕ → Allocation → String → Row
+  orders : List ℕ → List ℕ → List ℕ → Row
+  refusesList : List ℕ → List ℕ → ℕ → ℕ → Row
+  printsOrder : List ℕ → String → Row
   charged : ℕ → Row → Row
   tied : List ℕ → Row → Row
 
@@ -109,6 +114,9 @@ Holds charge bytes (refusesStore call out number place) =
 Holds charge bytes (prints table output) = outputOf (new table) ≡ ascii output
 Holds charge bytes (printsQuick table output) = quickOutputOf (new table) ≡ ascii output
 Holds charge bytes (lists table plan output) = planLines (readingOf (new table) .tasks) plan ≡ ascii output
+Holds charge bytes (orders table list tasks) = taskOrderOf (new table) list ≡ record { outcome = Accepted; order = row 0 (length tasks) (entry tasks) }
+Holds charge bytes (refusesList table list number place) = Gives (taskOrderOf (new table) list .outcome) number place × (taskOrderOf (new table) list .order ≡ replicate 16 0)
+Holds charge bytes (printsOrder input output) = feedsOutputOf input ≡ ascii output
 Holds charge bytes (charged own row) = Holds own bytes row
 Holds charge bytes (tied own row) = Holds charge (λ table. own) row
 
@@ -347,6 +355,43 @@ quicks =
     ∷ printsQuick (newTable 1 0 (1000 ∷ 1001 ∷ []) (1 ∷ 1 ∷ []) (1 ∷ 1 ∷ [])) "refused 7 2\n"
     ∷ []
 
+-- four tasks of equal periods in the new form, and five of periods 10, 20, 40, 15 and 60
+abbrev pub alike : List ℕ
+alike = newTable 1 0 (10 ∷ 10 ∷ 10 ∷ 10 ∷ []) (1 ∷ 1 ∷ 1 ∷ 1 ∷ []) (1 ∷ 1 ∷ 1 ∷ 1 ∷ [])
+
+abbrev pub unlike : List ℕ
+unlike = newTable 1 0 (10 ∷ 20 ∷ 40 ∷ 15 ∷ 60 ∷ []) (1 ∷ 1 ∷ 1 ∷ 1 ∷ 1 ∷ []) (1 ∷ 1 ∷ 1 ∷ 1 ∷ 1 ∷ [])
+
+-- Tasks that feed each other. 4 feeds 1 and 3 feeds 2; 3 and 4 feed each other and 1 hangs on their circle; a circle of 1 and 3 behind which 2 feeds
+-- itself; a pair twice, then one that names no task. No pair; the same pair twice; pairs turned round beside each other; a circle of three; two circles.
+-- A multiple either way, and periods of which neither is. A number above n, in either place. No bytes, too few, too many, 65 pairs. A table that is
+-- refused with a list that would be. What the program prints: an order, a circle, no list, too few bytes for a table.
+unfoldable pub feeds : List Row
+feeds =
+    orders alike (2 ∷ 4 ∷ 3 ∷ 1 ∷ 2 ∷ []) (3 ∷ 2 ∷ 4 ∷ 1 ∷ [])
+    ∷ refusesList alike (3 ∷ 3 ∷ 4 ∷ 3 ∷ 4 ∷ 3 ∷ 1 ∷ []) 21 3
+    ∷ refusesList alike (3 ∷ 1 ∷ 3 ∷ 2 ∷ 3 ∷ 1 ∷ 2 ∷ []) 20 3
+    ∷ refusesList alike (3 ∷ 1 ∷ 1 ∷ 0 ∷ 2 ∷ 2 ∷ 1 ∷ []) 20 3
+    ∷ orders alike (0 ∷ []) (1 ∷ 2 ∷ 3 ∷ 4 ∷ [])
+    ∷ orders alike (3 ∷ 4 ∷ 1 ∷ 4 ∷ 1 ∷ 2 ∷ 1 ∷ []) (3 ∷ 4 ∷ 1 ∷ 2 ∷ [])
+    ∷ refusesList alike (2 ∷ 2 ∷ 4 ∷ 4 ∷ 2 ∷ []) 21 2
+    ∷ refusesList alike (3 ∷ 4 ∷ 2 ∷ 3 ∷ 2 ∷ 3 ∷ 4 ∷ []) 21 2
+    ∷ refusesList alike (4 ∷ 3 ∷ 4 ∷ 1 ∷ 2 ∷ 4 ∷ 3 ∷ 2 ∷ 1 ∷ []) 21 1
+    ∷ orders unlike (3 ∷ 2 ∷ 3 ∷ 5 ∷ 1 ∷ 2 ∷ 4 ∷ []) (3 ∷ 2 ∷ 1 ∷ 5 ∷ 4 ∷ [])
+    ∷ refusesList unlike (2 ∷ 1 ∷ 3 ∷ 2 ∷ 4 ∷ []) 20 2
+    ∷ refusesList alike (2 ∷ 1 ∷ 5 ∷ 2 ∷ 1 ∷ []) 20 2
+    ∷ refusesList alike (1 ∷ 1 ∷ 5 ∷ []) 20 1
+    ∷ refusesList alike [] 19 0
+    ∷ refusesList alike (1 ∷ 1 ∷ []) 19 0
+    ∷ refusesList alike (1 ∷ 1 ∷ 2 ∷ 0 ∷ []) 19 0
+    ∷ refusesList alike (65 ∷ replicate 65 1 ++ replicate 65 2) 19 0
+    ∷ refusesList (0 ∷ 1 ∷ 1 ∷ 0 ∷ []) [] 4 0
+    ∷ printsOrder (alike ++ (2 ∷ 4 ∷ 3 ∷ 1 ∷ 2 ∷ [])) "3 2 4 1\n"
+    ∷ printsOrder (alike ++ (3 ∷ 3 ∷ 4 ∷ 3 ∷ 4 ∷ 3 ∷ 1 ∷ [])) "refused 21 3\n"
+    ∷ printsOrder alike "refused 19 0\n"
+    ∷ printsOrder (0 ∷ 4 ∷ 1 ∷ 0 ∷ 10 ∷ []) "refused 4 0\n"
+    ∷ []
+
 -- Of two tasks of equal weight the lower number is placed.
 -- Two tasks that no core holds together: display and axis loop of equal weight, where the axis loop's shorter period gives it the lower core;
 -- of equal weight and period, where the lower number has it; and the heavier one of longer period, which has it.
@@ -405,3 +450,4 @@ pub record WorkedRows : Type 0 where
   pub core-bytes : AllHold ties
   pub new-form : AllHold newTables
   pub moved-tables : AllHold moves
+  pub feeding-tasks : AllHold feeds
