@@ -42,7 +42,9 @@ pub fn relation_of(list: &[u8]) -> [bool; 289]
     let mut cells = [false; 289];
     let mut i: usize = 0;
     while i < k {
-        let next = relation::with_pair(cells, pairs::feeding(list, i), pairs::fed(list, i));
+        let a = pairs::feeding(list, i);
+        let b = pairs::fed(list, i);
+        let next = relation::with_pair(cells, a, b);
         cells = next;
         i += 1;
     }
