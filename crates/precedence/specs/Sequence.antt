@@ -10,11 +10,11 @@ unfoldable pub stands : List ℕ → ℕ → Bool
 stands [] t = false
 stands (x ∷ xs) t = eqb x t || stands xs t
 
--- of tasks 1 to n, task k + 1 feeds t and does not yet stand
+-- task k + 1 feeds t and does not yet stand
 unfoldable pub holdsUp : (ℕ → ℕ → Bool) → (ℕ → Bool) → ℕ → ℕ → Bool
 holdsUp f placed t k = f (suc k) t && not (placed (suc k))
 
--- some task that feeds t does not yet stand
+-- some task of 1 to n feeds t and does not yet stand
 unfoldable pub waits : (ℕ → ℕ → Bool) → ℕ → (ℕ → Bool) → ℕ → Bool
 waits f n placed t = not (eqb (first (holdsUp f placed t) n) 0)
 
