@@ -10,7 +10,7 @@ use Rattle.numbers.proofs.RowLaws.{length-row, getD-row, row-beyond}
 use Rattle.refusal.specs.Causes.{numberIn}
 use Rattle.refusal.specs.Conditions.{First}
 use Rattle.taskset.specs.Table.{Table, Sound}
-use Rattle.precedence.specs.Paths.{Path, one, more, OnCircle}
+use Rattle.precedence.specs.Paths.{Path, one, more}
 use Rattle.precedence.specs.Order.{IsOrder}
 use Rattle.pairs.specs.Fit.{Feeds}
 use Rattle.feeding.specs.Limits.{Orderly}

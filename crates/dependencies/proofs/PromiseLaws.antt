@@ -2,9 +2,9 @@
 use Prim.Native.Nat.{ℕ, _-_, _≤_}
 use mathlib.Core.Path.{_≡_, refl, sym, _∙_, ap}
 use mathlib.Core.Bool.{Bool}
-use mathlib.Core.List.{List, [], _∷_, _++_}
+use mathlib.Core.List.{List}
 use mathlib.Core.Logic.{_⊎_, inl, inr, _≢_, ⊎-elim}
-use lib.ListN.{length, replicate, length-append, length-replicate}
+use lib.ListN.{length, length-append, length-replicate}
 use native.Mathlib.Omega.{arith}
 use Rattle.numbers.specs.Rows.{padded}
 use Rattle.refusal.specs.Causes.{numberOf, placeOf}
@@ -21,7 +21,6 @@ use Rattle.taskset.specs.declared.Reading.{Reading}
 use Rattle.taskset.specs.Table.{Table, readingOf, Decided, Sound}
 use Rattle.taskset.proofs.TableLaws.{also-sound, table-accepts, read-outcome, read-fields}
 use Rattle.newform.specs.Limits.{new}
-use Rattle.newform.proofs.NewLaws.{new-sound}
 use Rattle.precedence.specs.Paths.{LowestOnCircle}
 use Rattle.precedence.specs.Order.{IsOrder}
 use Rattle.precedence.specs.Sequence.{ordered}

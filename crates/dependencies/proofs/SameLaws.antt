@@ -1,5 +1,5 @@
 -- For lists that neither 19 nor 20 refuses, the answer depends only on which task feeds which.
-use Prim.Native.Nat.{ℕ, zero, suc, _<_}
+use Prim.Native.Nat.{ℕ, zero, suc}
 use mathlib.Core.Path.{_≡_, refl, sym, _∙_, ap}
 use mathlib.Core.Bool.{Bool, true, false, true≢false}
 use mathlib.Core.List.{List}
@@ -19,12 +19,10 @@ use Rattle.refusal.proofs.TestLaws.{outcome-cases, then-first, then-refused, by
 use Rattle.fields.specs.declared.Fields.{Fields}
 use Rattle.taskset.specs.Table.{Table}
 use Rattle.precedence.specs.Circles.{circular}
-use Rattle.precedence.specs.Sequence.{ordered}
 use Rattle.precedence.proofs.WidthLaws.{reach-cong, ordered-cong}
-use Rattle.pairs.specs.Pairs.{pairCount, malformed, feeds, listTest}
+use Rattle.pairs.specs.Pairs.{pairCount, malformed, feeds}
 use Rattle.pairs.proofs.FitLaws.{feeds-exactly}
 use Rattle.feeding.specs.Tests.{unfitAt, pairsTest, circleTest, listTests}
-use Rattle.dependencies.specs.declared.TaskOrder.{TaskOrder}
 use Rattle.dependencies.specs.Order.{refusedOrder, orderFor, orderBy, orderOf}
 use Rattle.dependencies.specs.Promise.{SamePairs, Named}
 use Rattle.dependencies.proofs.PromiseLaws.{by-outcome}

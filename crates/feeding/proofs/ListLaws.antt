@@ -1,10 +1,9 @@
 -- The tests of a list report its refusals, and accept exactly an orderly one.
-use Prim.Native.Nat.{ℕ, zero, suc, pred, _+_, _≤_, _<_}
-use mathlib.Core.Path.{_≡_, refl, sym, _∙_, ap}
-use mathlib.Core.Bool.{Bool, true, false, _&&_, _||_}
+use Prim.Native.Nat.{ℕ, suc, pred, _+_, _≤_, _<_}
+use mathlib.Core.Path.{_≡_, refl, _∙_, ap}
+use mathlib.Core.Bool.{Bool, true, false}
 use mathlib.Core.List.{List, [], _∷_}
 use mathlib.Core.Logic.{_↔_}
-use lib.Dec.{eqb}
 use lib.ListN.{getD, replicate}
 use native.Mathlib.Omega.{arith}
 use Rattle.numbers.specs.First.{first}
@@ -14,14 +13,13 @@ use Rattle.refusal.specs.Conditions.{Tested}
 use Rattle.refusal.specs.declared.Cause.the-variants.{Pair, Circle}
 use Rattle.refusal.proofs.ConditionLaws.{then-reports, test-at, no-more}
 use Rattle.fields.specs.declared.Fields.{Fields}
-use Rattle.precedence.specs.Paths.{Task, OnCircle}
 use Rattle.precedence.specs.Circles.{circular}
 use Rattle.precedence.proofs.CircleLaws.{circular-exactly, path-task}
 use Rattle.precedence.proofs.WidthLaws.{reach-cong}
 use Rattle.relation.specs.Cells.{edge, Cells, withPair}
 use Rattle.relation.proofs.CellLaws.{cells-none}
 use Rattle.pairs.specs.Pairs.{pairCount, feeding, fed, unfit, saidBy, feeds}
-use Rattle.pairs.specs.Fit.{Feeds, PairFits, listUnformed, pairUnfit}
+use Rattle.pairs.specs.Fit.{PairFits, listUnformed, pairUnfit}
 use Rattle.pairs.proofs.FitLaws.{list-tested, unfit-exactly, not-unfit, feeds-exactly, fit-among}
 use Rattle.feeding.specs.Tests.{unfitAt, listTests}
 use Rattle.feeding.specs.Limits.{Orderly, circleThere, listConditions}

@@ -1,8 +1,8 @@
 -- The closure decides which paths there are, and so which tasks lie on a circle.
-use Prim.Native.Nat.{ℕ, zero, suc, pred, _≤_, _<_}
-use mathlib.Core.Path.{_≡_, refl, sym}
-use mathlib.Core.Bool.{Bool, true, _&&_, _||_, or-true}
-use mathlib.Core.Logic.{_⊎_, inl, inr, _↔_, ⊎-elim, ⊎-map, by-cases}
+use Prim.Native.Nat.{ℕ, zero, suc, pred}
+use mathlib.Core.Path.{_≡_}
+use mathlib.Core.Bool.{Bool, true, _&&_, or-true}
+use mathlib.Core.Logic.{_⊎_, _↔_, ⊎-elim, ⊎-map, by-cases}
 use native.Mathlib.Decide.{ℕ-discrete}
 use native.Mathlib.Omega.{arith}
 use Rattle.numbers.specs.First.{IsFirst}
@@ -77,19 +77,6 @@ module _ {Feeds : ℕ → ℕ → Type 0} where
         let e : suc (pred u) ≡ u = omega (arith, t .least) in
         not-less u (suc k) (λ l. i .none (pred u) (omega arith) (rw e p));
   }
-
-  -- and the lowest is the first
-  pub lowest-first : {n k : ℕ} → AmongTasks n Feeds → LowestOnCircle Feeds (suc k) → IsFirst (λ t. OnCircle Feeds (suc t)) n k
-  lowest-first among l = record {
-    below = path-task among (l .circle) .most;
-    here = l .circle;
-    none = λ j h p. omega (arith, l .lowest (suc j) p);
-  }
-
--- the same pairs make the same paths
-pub path-map : {F G : ℕ → ℕ → Type 0} → ((a b : ℕ) → F a b → G a b) → {a b : ℕ} → Path F a b → Path G a b
-path-map h (one {a} {b} e) = one (h a b e)
-path-map h (more {a} {b} e p) = more (h a b e) (path-map h p)
 
 -- ---- the closure of a relation that is decided
 

@@ -8,8 +8,8 @@ use native.Mathlib.Nat.{le-antisymm}
 use native.Mathlib.Decide.{decLt}
 use native.Mathlib.Omega.{arith}
 use Rattle.numbers.proofs.RowLaws.{by-entries}
-use Rattle.precedence.specs.Paths.{Task, AmongTasks, Path, one, more, OnCircle}
-use Rattle.precedence.specs.Order.{Stands, Ready, IsOrder}
+use Rattle.precedence.specs.Paths.{AmongTasks, Path, one, more, OnCircle}
+use Rattle.precedence.specs.Order.{Ready, IsOrder}
 use Rattle.precedence.proofs.CircleLaws.{path-task}
 
 module _ {Feeds : ℕ → ℕ → Type 0} {n : ℕ} (among : AmongTasks n Feeds) where

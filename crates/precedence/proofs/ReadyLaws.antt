@@ -1,18 +1,16 @@
 -- What stands in a list, and which task is ready behind it, as computed and as stated.
 use Prim.Native.Nat.{ℕ, zero, suc, pred, _<_}
-use mathlib.Core.Path.{_≡_, refl, sym, _∙_, ap}
+use mathlib.Core.Path.{_≡_, refl, sym, _∙_}
 use mathlib.Core.Bool.{Bool, true, false, not, _&&_, _||_, or-true, or-false, and-false, true≢false}
 use mathlib.Core.List.{List, [], _∷_, _++_}
 use mathlib.Core.Logic.{_↔_, ⊎-elim}
 use lib.Dec.{eqb}
 use lib.ListN.{length, getD}
 use native.Mathlib.Omega.{arith}
-use borrow.Author.Tests.{eq-eqb, eqb-true, ne-eqb, not-true, not-false}
-use Rattle.numbers.specs.First.{first}
-use Rattle.numbers.proofs.BoolLaws.{true-or-false, or-cases, and-left, and-right, and-intro}
-use Rattle.numbers.proofs.BoundLaws.{not-unequal}
+use borrow.Author.Tests.{eq-eqb, eqb-true, not-true, not-false}
+use Rattle.numbers.proofs.BoolLaws.{true-or-false, or-cases, and-left, and-right}
 use Rattle.numbers.proofs.FirstLaws.{first-zero, first-clear}
-use Rattle.precedence.specs.Paths.{Task, AmongTasks}
+use Rattle.precedence.specs.Paths.{AmongTasks}
 use Rattle.precedence.specs.Order.{Stands, Ready}
 use Rattle.precedence.specs.Sequence.{stands, holdsUp, waits, isReady}
 

@@ -1,5 +1,5 @@
 -- Laws of cells: one pair more, one step of the closure, all steps.
-use Prim.Native.Nat.{ℕ, zero, suc, _+_, _*_, _/_, _%_, _≤_, _<_}
+use Prim.Native.Nat.{ℕ, suc, _+_, _*_, _/_, _%_, _≤_, _<_}
 use mathlib.Core.Path.{_≡_, refl, sym, _∙_, ap}
 use mathlib.Core.Bool.{Bool, true, false, _&&_, _||_, or-true, or-false, and-false}
 use mathlib.Core.List.{List}
@@ -19,10 +19,6 @@ use Rattle.relation.specs.Cells.{edge, Cells, withPair, throughAt}
 pub cells-none : (f : ℕ → ℕ → Bool) → ((a b : ℕ) → f a b ≡ false) → Cells (replicate 289 false) f
 unfolding edge
 cells-none f h = record { size = length-replicate 289 false; at = λ a b x y. getD-replicate 289 (a * 17 + b) false false (omega arith) ∙ sym (h a b) }
-
--- cells say what a relation says that says the same
-pub cells-as : {cells : List Bool} {f g : ℕ → ℕ → Bool} → Cells cells f → ((a b : ℕ) → f a b ≡ g a b) → Cells cells g
-cells-as s h = record { size = s .size; at = λ a b x y. s .at a b x y ∙ h a b }
 
 -- ---- one pair more
 
