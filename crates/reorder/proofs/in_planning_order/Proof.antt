@@ -23,6 +23,6 @@ loop-again c = gather-next (c .before .before .loop .inv) (c .before .loop-test 
 
 pub in-planning-order-spec : {M : Type 1} → statement M
 in-planning-order-spec =
-    tie.close (tie.spec Inv-loop μ-loop (λ c. search (needs, gather-start)) (λ c. search needs) (λ c. search needs)
+    tie.close (tie.spec Inv-loop μ-loop (λ c. gather-start _ _ _ (c .pre)) (λ c. search needs) (λ c. search needs)
     mul-with-number array-read-with-number (λ c κs. search needs) (λ c. search needs) (λ c. search needs)
-    loop-again (λ c. search (needs, gather-done)))
+    loop-again (λ c. gather-done (c .before .loop .inv) (c .loop-test .left)))

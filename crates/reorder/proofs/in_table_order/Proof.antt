@@ -16,6 +16,6 @@ loop-again c = scatter-next (c .before .before .loop .inv) (c .before .loop-test
 
 pub in-table-order-spec : {M : Type 1} → statement M
 in-table-order-spec =
-    tie.close (tie.spec Inv-loop μ-loop (λ c. search (needs, scatter-start)) (λ c. search needs) (λ c. search needs)
+    tie.close (tie.spec Inv-loop μ-loop (λ c. scatter-start _ _ _ (c .pre)) (λ c. search needs) (λ c. search needs)
     (λ c. search needs) (λ c κs. search needs) (λ c. search needs) (λ c. search needs) loop-again
-    (λ c. search (needs, scatter-done)))
+    (λ c. scatter-done (c .before .loop .inv) (c .loop-test .left)))
