@@ -10,8 +10,13 @@ Inv-loop ticks requests now₀ sum₀ left₀ now sum left = Summing now₀ tick
 abbrev μ-loop : tie.MeasureT-loop
 μ-loop ticks requests now₀ sum₀ left₀ now sum left = left
 
+loop-again : tie.Need-loop-again Inv-loop μ-loop
+loop-again c =
+    let ticked = c .before .before .before in
+    sum-next (ticked .before .before .loop .inv) _ (ticked .before .loop-test .taken) (ticked .tick .ensures .0) (c .before .before .plus .ensures) (c .before .plus2 .ensures)
+
 pub sum-of-tasks-spec : {M : Type 1} → statement M
 sum-of-tasks-spec =
     tie.close (tie.spec Inv-loop μ-loop (λ c. search (needs, sum-start)) (λ c κs. search needs) (λ c κs. search needs)
-    (λ c κs. search (needs, plus-small)) (λ c. search needs) (λ c. search needs) (λ c. search (needs, sum-next))
-    (λ c. search (needs, sum-done)))
+    (λ c κs. search (needs, plus-small)) (λ c. search needs) (λ c. search needs) loop-again
+    (λ c. sum-done (c .before .loop .inv) (c .loop-test .left)))

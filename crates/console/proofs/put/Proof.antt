@@ -9,4 +9,5 @@ write-bytes-requires c κs = rw (c .before .before .shown-length .ensures) (show
 
 pub put-spec : {M : Type 1} → statement M
 put-spec =
-    tie.close (tie.spec (λ c κs. search needs) (λ c. search needs) write-bytes-requires (λ c. search (needs, took-of)))
+    tie.close (tie.spec (λ c κs. search needs) (λ c. search needs) write-bytes-requires
+    (λ c. took-of (c .before .before .before .shown-length .ensures) (c .write-bytes .ensures)))

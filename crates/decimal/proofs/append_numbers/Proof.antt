@@ -1,5 +1,6 @@
 -- After k turns the first k numbers are there.
 use Prim.Native.Nat.{_-_}
+use mathlib.Core.Path.{refl}
 use lib.ListN.{length}
 use native.Mathlib.Omega.{arith}
 use Rattle.decimal.specs.Decimal.{field}
@@ -16,6 +17,6 @@ abbrev μ-loop : tie.MeasureT-loop
 
 pub append-numbers-spec : {M : Type 1} → statement M
 append-numbers-spec =
-    tie.close (tie.spec Inv-loop μ-loop (λ c. search (needs, join-start)) (λ c. search needs)
+    tie.close (tie.spec Inv-loop μ-loop (λ c. join-start _ _ _ _ _ (search needs) refl) (λ c. search needs)
     (λ c. omega (arith, c .shared-slice-known2 .given (c .before .before .loop .k))) (λ c κs. search needs)
-    (λ c. search needs) (λ c. search needs) (λ c. search (needs, join-next)) (λ c. search (needs, join-done)))
+    (λ c. search needs) (λ c. search needs) (λ c. join-next _ (c .before .before .before .loop .inv) (c .before .before .loop-test .taken) (c .append-field .ensures)) (λ c. search (needs, join-done)))
