@@ -66,8 +66,8 @@ pub lowest-zeros : (byte k : ℕ) → 0 < byte → byte < 2 ^ k → suc (trailin
 unfolding lowestPermitted
 lowest-zeros byte k l h =
     sym (first-unique (λ i. permitted byte (i + 1)) k (trailingZeros k byte)
-    (isFirst-map (λ i e. digit-permitted byte (i + 1) (ap (digit byte) (at i) ∙ e))
-    (λ i e. sym (ap (digit byte) (at i)) ∙ permitted-digit byte (i + 1) e) (trailing-first k byte l h)))
+    (isFirst-map (λ i b e. digit-permitted byte (i + 1) (ap (digit byte) (at i) ∙ e))
+    (λ i b e. sym (ap (digit byte) (at i)) ∙ permitted-digit byte (i + 1) e) (trailing-first k byte l h)))
   where
     at : (i : ℕ) → pred (i + 1) ≡ i
     at i = ap pred (add-one i)

@@ -1,4 +1,4 @@
-// Code 7: what the reader of the new form says of a table. Block: the table, up to 1,024 bytes.
+// Codes 7 and 12: what the reader of the new form, or the bus reader, says of a table. Block: the table, up to 1,024 bytes.
 ghost use mathlib.Core.Path.{_≡_};
 ghost use Rattle.text.specs.Shown.{shown, Appended};
 ghost use Rattle.caselines.specs.Lines.{boardFields, rowFields, newLine};

@@ -1,5 +1,5 @@
 // Code 2: the exact plan of a table. Blocks: the table, up to 1,024 bytes; the charge, 4 bytes; the core bytes, up to 1,024 bytes;
-// the step limit, 4 bytes.
+// the step limit, 4 bytes. Code 13: that of a table for bus drives. Blocks: the table, in the new form, and the step limit.
 ghost use mathlib.Core.Path.{_≡_};
 ghost use Rattle.text.specs.Shown.{shown};
 ghost use Rattle.caselines.specs.Lines.{verdictNumber, planLine};

@@ -51,9 +51,13 @@ fn run_table(table: &[u8]) -> bool {
     console::show(caselines::tables::table_line(reading)).whole
 }
 
-// Prints the line of a table in the new form; false where the output fails.
-fn run_setup(table: &[u8]) -> bool {
-    let reading = newform::read_new(table);
+// Prints the line of a table in the new form, read by code 7 as any and by any other code as one for bus drives; false where the output
+// fails.
+fn run_setup(code: u8, table: &[u8]) -> bool {
+    let reading = match code {
+        7 => newform::read_new(table),
+        _ => bus::read_bus(table),
+    };
     console::show(caselines::newtables::new_line(reading)).whole
 }
 
@@ -64,6 +68,16 @@ fn run_plan(table: &[u8], charge: u32, cores: &[u8]) -> bool {
         return false;
     }
     let plan = planner::plan(table, charge, cores, limit.value);
+    console::show(caselines::plans::plan_line(plan)).whole
+}
+
+// The same for a table for bus drives.
+fn run_bus_plan(table: &[u8]) -> bool {
+    let limit = read_number();
+    if !limit.whole {
+        return false;
+    }
+    let plan = bus::plan_bus(table, limit.value);
     console::show(caselines::plans::plan_line(plan)).whole
 }
 
@@ -285,9 +299,10 @@ fn run_on_board(code: u8, table: &[u8]) -> bool {
 fn run_on(code: u8, table: &[u8]) -> bool {
     match code {
         1 => run_table(table),
-        7 => run_setup(table),
+        7 | 12 => run_setup(code, table),
         9 | 10 => run_move(code, table),
         11 => run_dependencies(table),
+        13 => run_bus_plan(table),
         _ => run_on_board(code, table),
     }
 }

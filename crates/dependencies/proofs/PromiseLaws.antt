@@ -15,7 +15,7 @@ use Rattle.refusal.specs.declared.Outcome.{Outcome}
 use Rattle.refusal.specs.declared.Outcome.the-variants.{Accepted, Refused}
 use Rattle.refusal.proofs.CauseLaws.{number-range}
 use Rattle.refusal.proofs.TestLaws.{accepted≢refused, then-first, then-refused, by-accepted, by-refused, by-both, by-says}
-use Rattle.refusal.proofs.ConditionLaws.{decides, first-either, NumbersTo, first-to}
+use Rattle.refusal.proofs.ConditionLaws.{decides, first-either, Numbers, first-number}
 use Rattle.fields.specs.declared.Fields.{Fields}
 use Rattle.taskset.specs.declared.Reading.{Reading}
 use Rattle.taskset.specs.Table.{Table, readingOf, Decided, Sound}
@@ -111,9 +111,9 @@ module _ {t : Table} (s : Sound t) (below : (number place : ℕ) → First (t .c
 -- a table of the new form has numbers up to 18
 pub new-below : (s : List ℕ) (number place : ℕ) → First (new s .conditions) number place → number ≤ 18
 unfolding new
-new-below s = first-to 18 (new s .conditions) numbers
+new-below s = first-number (λ k. k ≤ 18) (new s .conditions) numbers
   where
-    numbers : NumbersTo 18 (new s .conditions)
+    numbers : Numbers (λ k. k ≤ 18) (new s .conditions)
     numbers = (omega arith, (omega arith, (omega arith, (omega arith, (omega arith, (omega arith, (omega arith, (omega arith, (omega arith, (omega arith, (omega arith, tt)))))))))))
 
 -- ---- the steps of the program

@@ -1,6 +1,7 @@
 -- Fields are accepted exactly if they are within the limits, and refused with the first condition that holds.
 use Prim.Native.Nat.{ℕ, _+_, _-_, _≤_, _<_}
 use mathlib.Core.Path.{_≡_, refl, sym, _∙_}
+use mathlib.Core.List.{[], _∷_}
 use mathlib.Core.Bool.{true, false, true≢false}
 use mathlib.Core.Logic.{_↔_, ⊎-elim}
 use lib.ListN.{length}
@@ -20,8 +21,8 @@ use Rattle.refusal.proofs.ConditionLaws.{test-only, test-at, _and_, no-more, th
 use Rattle.fields.specs.Most.{mostTasks, mostCores, mostCharge, longestPeriod, mostMultiple}
 use Rattle.fields.specs.Fields.{periodAt, budgetAt, costAt, affinityAt}
 use Rattle.fields.specs.Hyperperiod.{multipleTo, hyperperiodOf}
-use Rattle.fields.specs.Tests.{badPeriod, badBudget, badCost, badAffinity, exceeds, sizeTests, limitTests, fieldsOutcome}
-use Rattle.fields.specs.Limits.{Sized, Within, Exceeds, sizes, chargeAbove, budgetOutside, costAbove, rowOther, affinityUnfit, limits, fieldConditions}
+use Rattle.fields.specs.Tests.{chargeTest, badPeriod, periodsTest, badBudget, badCost, badAffinity, exceeds, sizeTests, limitTests, fieldsOutcome}
+use Rattle.fields.specs.Limits.{Sized, Within, Exceeds, sizes, chargeAbove, periodOutside, budgetOutside, costAbove, rowOther, affinityUnfit, limits, fieldConditions}
 use Rattle.fields.specs.declared.Fields.{Fields}
 use Rattle.fields.proofs.HyperperiodLaws.{multiple-bound}
 
@@ -50,11 +51,18 @@ module _ (f : Fields) where
       and test-only CoreCount refl (outside-exactly 1 mostCores (f .m))
       and no-more
 
+  pub charge-reported : Reports (chargeAbove f ∷ []) (chargeTest f)
+  charge-reported = test-only Charge refl (less-exactly mostCharge (f .charge))
+
+  pub periods-reported : Reports (periodOutside f ∷ []) (periodsTest f)
+  unfolding badPeriod
+  periods-reported = test-at Period (λ k. (refl, refl)) (λ k. outside-exactly 1 longestPeriod (periodAt f k))
+
   pub limits-reported : Reports (limits f) (inOrder (limitTests f))
-  unfolding inOrder badPeriod badBudget badCost badAffinity
+  unfolding inOrder badBudget badCost badAffinity
   limits-reported =
-      test-only Charge refl (less-exactly mostCharge (f .charge))
-      and test-at Period (λ k. (refl, refl)) (λ k. outside-exactly 1 longestPeriod (periodAt f k))
+      charge-reported
+      and periods-reported
       and test-at Budget (λ k. (refl, refl)) (λ k. outside-exactly 1 (periodAt f k) (budgetAt f k))
       and test-at Cost (λ k. (refl, refl)) (λ k. less-exactly (periodAt f k) (costAt f k))
       and test-only (Affinity 0) refl (unequal-exactly (f .given) (f .n))

@@ -24,7 +24,7 @@ pub short-tested : (lead : ℕ) (s : List ℕ) → Tested (lead ≤ length s) (t
 short-tested lead s = one-tested TooShort refl (less-exactly (length s) lead) (not-less _ _, λ h g. omega arith)
 
 module _ {Front : Type 0} {cs : List Condition} {front : Outcome} (t : Tested Front cs front) (size : ℕ) (s : List ℕ) (f : Fields) where
-  shape-tested : Tested ((Front × Sized f) × (length s ≡ size)) ((cs ++ sizes f) ++ otherLength size s ∷ []) (shapeOutcome front size s f)
+  pub shape-tested : Tested ((Front × Sized f) × (length s ≡ size)) ((cs ++ sizes f) ++ otherLength size s ∷ []) (shapeOutcome front size s f)
   unfolding shapeOutcome
   shape-tested = join (join t (sizes-tested f)) (one-tested Length refl (unequal-exactly (length s) size) (not-unequal _ _, λ e n. n e))
 

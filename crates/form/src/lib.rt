@@ -54,7 +54,7 @@ fn length_test(s: &[u8], size: usize) -> Outcome
 }
 
 // The tests of the leading bytes, the sizes of the fields, number 4.
-fn shape_tests(front: Outcome, s: &[u8], size: usize, f: Fields) -> Outcome
+pub fn shape_tests(front: Outcome, s: &[u8], size: usize, f: Fields) -> Outcome
     ensures { λ r. ⌜ r ≡ shapeOutcome front size (now (s .entry)) f ⌝ }
 {
     let sizes = fields::size_tests(f);

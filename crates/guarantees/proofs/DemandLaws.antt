@@ -12,6 +12,7 @@ use Rattle.taskset.proofs.DemandLaws.{demand-exact}
 use Rattle.taskset.proofs.TableLaws.{bare-sound, read-decided, read-reads}
 use Rattle.oldform.proofs.OldLaws.{beside-sound, alone-sound, beside-stored, alone-stored}
 use Rattle.newform.proofs.NewLaws.{new-sound, new-stored}
+use Rattle.bus.proofs.BusLaws.{bus-sound, bus-stored}
 use Rattle.transfer.proofs.CallLaws.{written-sound, returned-sound}
 use Rattle.planner.proofs.PromiseLaws.{plan-decided, plan-promised}
 use Rattle.quick.proofs.PromiseLaws.{quick-decided, quick-fits}
@@ -27,12 +28,14 @@ sound-forms = record {
   besides = beside-sound;
   alones = alone-sound;
   news = new-sound;
+  buses = bus-sound;
   returneds = returned-sound;
   bares = bare-sound;
   writtens = written-sound;
   beside-stored = λ table charge affinity. beside-stored table charge affinity refl;
   alone-stored = λ table. alone-stored table refl;
   new-stored = λ table. new-stored table refl;
+  bus-stored = λ table. bus-stored table refl;
 }
 
 pub tick-demand : TickDemand

@@ -3,47 +3,32 @@ use Prim.Native.Nat.{ℕ, _+_, _*_, _≤_, _<_}
 use mathlib.Core.Path.{_≡_, refl, sym, _∙_, ap, ap₂}
 use mathlib.Core.List.{List, [], _++_, append-nil}
 use lib.ListN.{length, take, drop}
-use lib.Seq.{getD-take}
-use Rattle.numbers.proofs.RowLaws.{row-cong}
-use Rattle.wire.specs.Bytes.{wordAt}
-use Rattle.wire.proofs.WriteBackLaws.{front-long}
 use Rattle.refusal.specs.declared.Cause.the-variants.{Buffer}
 use Rattle.refusal.specs.declared.Outcome.the-variants.{Accepted}
-use Rattle.fields.specs.Fields.{periodAt, budgetAt, cut}
-use Rattle.taskset.specs.Reading.{acceptedReading}
-use Rattle.fields.specs.Limits.{Within}
 use Rattle.taskset.specs.Table.{Table, readingOf}
 use Rattle.fields.specs.declared.Fields.{Fields}
-use Rattle.fields.proofs.LimitLaws.{affinity-there}
-use Rattle.taskset.proofs.TableLaws.{table-accepts, read-outcome, read-fields, valid-reading, answers-alike}
-use Rattle.oldform.specs.Form.{besideFields, oldBytes}
-use Rattle.oldform.specs.Limits.{beside, alone}
-use Rattle.oldform.proofs.BackLaws.{old-long, old-form}
-use Rattle.oldform.proofs.OldLaws.{beside-sound, alone-sound}
-use Rattle.newform.specs.Form.{newFields}
+use Rattle.taskset.proofs.TableLaws.{table-accepts, read-outcome, read-fields, answers-alike}
+use Rattle.oldform.specs.Limits.{alone}
+use Rattle.oldform.proofs.OldLaws.{alone-sound}
 use Rattle.newform.specs.Limits.{new}
-use Rattle.newform.proofs.BackLaws.{cut-read}
 use Rattle.newform.proofs.NewLaws.{new-sound}
+use Rattle.encoding.proofs.BesideLaws.{fields-beside, valid-beside, reads-beside}
 use Rattle.storing.proofs.StorableLaws.{Storable, call-valid, call-decides, call-stores}
 use Rattle.transfer.proofs.CallLaws.{writing, moving, returning, write-back, write-unread, read-written, moved-on, moved-back}
-use Rattle.planner.specs.Plan.{planFor, refusedPlan, planBy, planOf, verdictOutcome}
-use Rattle.planner.proofs.PlanLaws.{plan-accepted-is}
+use Rattle.planner.specs.Plan.{planFor, planOf}
+use Rattle.planner.proofs.PlanLaws.{plan-accepted-is, plan-alike}
 use Rattle.quick.specs.Quick.{quickFor, refusedQuick, quickBy, quickOf}
 use Rattle.ceiling.specs.Ceiling.{ceilingFor, refusedCeiling, ceilingBy, ceilingOf}
 use Rattle.listing.specs.Printed.{printed}
-use Rattle.report.specs.Output.{planLines, outputOf}
+use Rattle.report.proofs.OutputLaws.{output-alike}
 use Rattle.quickreport.specs.Output.{quickLines, quickOutputOf}
 use Rattle.firmware.specs.Call.{called, codeOf, codeFor, bufferAfter}
 use Rattle.firmware.proofs.CallLaws.{called-sound, code-accepted-is, buffer-accepted-is}
-use Rattle.guarantees.specs.Forms.{newIn, besideOf, MovesOn, StoresIn, Forms, AnsweredAlike}
+use Rattle.guarantees.specs.Forms.{newIn, MovesOn, StoresIn, Forms, AnsweredAlike}
 
 -- ---- tables that read alike
 
 module _ (t u : Table) (e : readingOf t ≡ readingOf u) where
-  plans-same : (limit : ℕ) → planOf t limit ≡ planOf u limit
-  unfolding planOf planBy
-  plans-same limit = answers-alike t u e refusedPlan (λ f. planFor f limit)
-
   quick-same : quickOf t ≡ quickOf u
   unfolding quickOf quickBy
   quick-same = answers-alike t u e refusedQuick quickFor
@@ -52,16 +37,12 @@ module _ (t u : Table) (e : readingOf t ≡ readingOf u) where
   unfolding ceilingOf ceilingBy
   ceiling-same = answers-alike t u e refusedCeiling ceilingFor
 
-  output-same : outputOf t ≡ outputOf u
-  unfolding outputOf
-  output-same = ap₂ (λ r p. printed (verdictOutcome (p .verdict)) (planLines (r .tasks) p)) e (plans-same 1000000)
-
   quick-output-same : quickOutputOf t ≡ quickOutputOf u
   unfolding quickOutputOf
   quick-output-same = ap₂ (λ r p. printed (p .outcome) (quickLines (r .tasks) p)) e quick-same
 
 pub answered-alike : AnsweredAlike
-answered-alike t u e = record { plans = plans-same t u e; quick = quick-same t u e; ceiling = ceiling-same t u e; output = output-same t u e; quick-output = quick-output-same t u e }
+answered-alike t u e = record { plans = plan-alike t u e; quick = quick-same t u e; ceiling = ceiling-same t u e; output = output-alike t u e; quick-output = quick-output-same t u e }
 
 -- ---- a table that was moved to the new form
 
@@ -97,45 +78,6 @@ module _ (s out : List ℕ) (moved : MovesOn s out) where
   buffer-alike limit buffer h =
       buffer-accepted-is (called (newIn s out) (length buffer)) limit buffer (call-on (length buffer) h)
       ∙ ap₂ (λ f a. take (f .n) (a .placement) ++ drop (f .n) buffer) fields-on (plan-on (length buffer) h limit)
-
--- ---- a table of the new form as one of the old, with its charge and core bytes beside it
-
-module _ (f : Fields) (w : Within f) where
-  periods-there : (k : ℕ) → k < f .n → wordAt (oldBytes f) 2 k ≡ periodAt f k
-  unfolding wordAt
-  periods-there k h = rw (append-nil (oldBytes f)) at (old-form f w [] .periods k h)
-
-  budgets-there : (k : ℕ) → k < f .n → wordAt (oldBytes f) (2 + 4 * f .n) k ≡ budgetAt f k
-  unfolding wordAt
-  budgets-there k h = rw (append-nil (oldBytes f)) at (old-form f w [] .budgets k h)
-
-  parts-read : besideFields (oldBytes f) (f .charge) (take (f .n) (f .affinity)) ≡ cut f
-  unfolding besideFields oldBytes cut
-  parts-read = λ i. record {
-    n = f .n;
-    m = f .m;
-    charge = f .charge;
-    periods = row-cong 0 (f .n) _ _ periods-there i;
-    budgets = row-cong 0 (f .n) _ _ budgets-there i;
-    affinity = row-cong 0 (f .n) _ _ (λ k h. getD-take (f .n) (f .affinity) k 0 h) i;
-    given = front-long (f .affinity) (affinity-there f w) i;
-  }
-
-module _ (s : List ℕ) (v : new s .Valid) where
-  fields-beside : besideOf s .fields ≡ new s .fields
-  unfolding beside new newFields
-  fields-beside = parts-read (newFields s) (v .fields) ∙ cut-read s (v .fields .sizes .tasks .1)
-
-  valid-beside : besideOf s .Valid
-  unfolding beside new oldBytes
-  valid-beside = record {
-    exact = old-long (newFields s) (v .fields);
-    row = front-long (newFields s .affinity) (affinity-there (newFields s) (v .fields));
-    fields = rw fields-beside (v .fields);
-  }
-
-  reads-beside : readingOf (besideOf s) ≡ readingOf (new s)
-  reads-beside = valid-reading (beside-sound _ _ _) valid-beside ∙ ap acceptedReading fields-beside ∙ sym (valid-reading (new-sound s) v)
 
 stores-in : {bytes : Fields → List ℕ} {Form : List ℕ → Type 0} {size : ℕ} {t : Table} → Storable bytes Form size t → StoresIn bytes Form size t
 stores-in s = record { decides = λ out. call-decides Buffer refl s out refl refl; stores = λ out. call-stores Buffer refl s out refl refl }

@@ -3,4 +3,5 @@ pub mod ChainLaws
 pub mod UnchargedLaws
 pub mod FormLaws
 pub mod FeedLaws
+pub mod DriveLaws
 pub mod RowLaws

@@ -21,7 +21,7 @@ use Rattle.taskset.specs.Table.{readingOf}
 use Rattle.form.specs.Shape.{shapeOutcome, formOutcome}
 use Rattle.oldform.specs.Limits.{oldOutcome, beside, alone}
 use Rattle.newform.specs.Form.{newFields, newBytes}
-use Rattle.newform.specs.Limits.{newOutcome, new}
+use Rattle.newform.specs.Limits.{newShape, newOutcome, new}
 use Rattle.storing.specs.Lent.{transferBy, exitBy, transferAfter, exitAfter}
 use Rattle.transfer.specs.Tables.{written, otherByte, returned}
 use Rattle.ordering.specs.Order.{precedes}
@@ -31,6 +31,9 @@ use Rattle.allocation.specs.TableOrder.{tableAnswer}
 use Rattle.planning.specs.Problem.{tableProblem, orderOf}
 use Rattle.planner.specs.Plan.{verdictOf, allocationOf, planFor, refusedPlan, planBy, planOf, verdictOutcome}
 use Rattle.allocation.specs.FirstFit.{lowestFit, fitFrom, firstFit, tableFit}
+use Rattle.profile.specs.Periods.{isEntry, busPlace}
+use Rattle.profile.specs.Tests.{unlisted}
+use Rattle.bus.specs.Limits.{busOutcome, bus}
 use Rattle.quick.specs.Quick.{quickPlacement, quickFor, refusedQuick, quickBy, quickOf}
 use Rattle.products.specs.Products.{someTied, factorFor, sumOfProducts}
 use Rattle.ceiling.specs.Ceiling.{stepCeiling, ceilingFor, refusedCeiling, ceilingBy, ceilingOf}
@@ -53,11 +56,11 @@ use Rattle.dependencies.specs.Order.{refusedOrder, orderFor, orderBy, orderOf a
 use Rattle.decimal.specs.Joined.{joined}
 use Rattle.feedsreport.specs.Split.{noCount, tooFew, splitAt, tableIn, listIn}
 use Rattle.feedsreport.specs.Output.{orderLine, orderOutputOf, feedsOutputOf}
-use Rattle.guarantees.specs.Rows.{feeds, moves, newTables, ties, charges, emptyCores, quicks, more, rows, AllHold, WorkedRows}
+use Rattle.guarantees.specs.Rows.{drives, feeds, moves, newTables, ties, charges, emptyCores, quicks, more, rows, AllHold, WorkedRows}
 
 -- every definition that a row computes by, under one name
 unfoldable opened : ℕ
-unfolding byOutcome beside new shapeOutcome startFor ceilingFor refusedCeiling first firstFrom row tab upTo sumOver sumTo productTo euclid gcd lcm lcms insert sorted position scatter demandOn _then_ refuseIf refuseAt inOrder wordAt byteAt oldBytes newBytes fieldsOutcome otherByte besideFields newFields newOutcome lowestPermitted noTasks refusedReading multipleTo hyperperiodOf demandOf badPeriod badBudget badCost exceeds taskSetOf acceptedReading readingBy readingOf precedes twins isEmpty someEmptyTwin tried xor permitted permittedCount allowed unfit everyCore everyAffinity badAffinity barredAt someTied factorFor sumOfProducts upFrom choices stepInto storedAfter boundAfter entered tryAll visit trace stored answer tableAnswer tableProblem orderOf verdictOf allocationOf planFor refusedPlan planBy planOf verdictOutcome slotTest firstSlot owedFor release releaseAll chosen advanceAll stepped refusedTick tick freshSlot freshSlots aboveAt refusedStart startBy placingOutcome startOf front digitsBy decimal field refusalLine sizesLine taskLine taskLines tableLines verdictWord summaryLine planLines printed outputOf lowestFit fitFrom firstFit tableFit quickPlacement quickFor refusedQuick quickBy quickOf stepCeiling ceilingBy ceilingOf quickSummary quickLines quickOutputOf formOutcome oldOutcome alone transferBy exitBy transferAfter exitAfter written returned loadOn through reach circular stands holdsUp waits isReady nextTask withNext ordered feeding fed malformed multiple periodOf saidBy feedsOf unfitOf unfitAt refusedOrder orderFor orderBy taskOrderOf joined noCount tooFew splitAt tableIn listIn orderLine orderOutputOf feedsOutputOf
+unfolding byOutcome beside new shapeOutcome startFor ceilingFor refusedCeiling first firstFrom row tab upTo sumOver sumTo productTo euclid gcd lcm lcms insert sorted position scatter demandOn _then_ refuseIf refuseAt inOrder wordAt byteAt oldBytes newBytes fieldsOutcome otherByte besideFields newFields newShape newOutcome lowestPermitted noTasks refusedReading multipleTo hyperperiodOf demandOf badPeriod badBudget badCost exceeds taskSetOf acceptedReading readingBy readingOf precedes twins isEmpty someEmptyTwin tried xor permitted permittedCount allowed unfit everyCore everyAffinity badAffinity barredAt someTied factorFor sumOfProducts upFrom choices stepInto storedAfter boundAfter entered tryAll visit trace stored answer tableAnswer tableProblem orderOf verdictOf allocationOf planFor refusedPlan planBy planOf verdictOutcome slotTest firstSlot owedFor release releaseAll chosen advanceAll stepped refusedTick tick freshSlot freshSlots aboveAt refusedStart startBy placingOutcome startOf front digitsBy decimal field refusalLine sizesLine taskLine taskLines tableLines verdictWord summaryLine planLines printed outputOf lowestFit fitFrom firstFit tableFit quickPlacement quickFor refusedQuick quickBy quickOf stepCeiling ceilingBy ceilingOf quickSummary quickLines quickOutputOf formOutcome oldOutcome alone transferBy exitBy transferAfter exitAfter written returned loadOn through reach circular stands holdsUp waits isReady nextTask withNext ordered feeding fed malformed multiple periodOf saidBy feedsOf unfitOf unfitAt refusedOrder orderFor orderBy taskOrderOf joined noCount tooFew splitAt tableIn listIn orderLine orderOutputOf feedsOutputOf isEntry busPlace unlisted busOutcome bus
 opened = 0
 
 base-hold : AllHold rows
@@ -96,6 +99,10 @@ feeds-hold : AllHold feeds
 unfolding opened feeds
 feeds-hold = (refl, (((refl, refl), refl), (((refl, refl), refl), (((refl, refl), refl), (refl, (refl, (((refl, refl), refl), (((refl, refl), refl), (((refl, refl), refl), (refl, (((refl, refl), refl), (((refl, refl), refl), (((refl, refl), refl), (((refl, refl), refl), (((refl, refl), refl), (((refl, refl), refl), (((refl, refl), refl), (((refl, refl), refl), (refl, (refl, (refl, (refl, tt))))))))))))))))))))))
 
+drives-hold : AllHold drives
+unfolding opened drives
+drives-hold = (((refl, refl), (refl, refl)), (((refl, refl), (refl, refl)), (((refl, refl), (refl, refl)), (((refl, refl), (refl, refl)), (((refl, refl), (refl, refl)), (((refl, refl), (refl, refl)), (((refl, refl), (refl, refl)), (((refl, refl), (refl, refl)), (((refl, refl), (refl, refl)), (((refl, refl), (refl, refl)), (((refl, refl), (refl, refl)), (((refl, refl), (refl, refl)), ((refl, refl), ((refl, refl), ((refl, refl), (refl, (refl, (refl, (refl, (refl, tt))))))))))))))))))))
+
 pub rows-hold : WorkedRows
 rows-hold = record {
   base = base-hold;
@@ -107,4 +114,5 @@ rows-hold = record {
   new-form = newTables-hold;
   moved-tables = moves-hold;
   feeding-tasks = feeds-hold;
+  bus-drives = drives-hold;
 }

@@ -24,6 +24,7 @@ use Rattle.oldform.specs.Form.{everyAffinity, FormBeside}
 use Rattle.oldform.specs.Limits.{beside, alone}
 use Rattle.newform.specs.Form.{NewForm}
 use Rattle.newform.specs.Limits.{new}
+use Rattle.bus.specs.Limits.{bus}
 use Rattle.transfer.specs.Tables.{written, returned}
 use Rattle.allocation.specs.EntryRule.{Twins}
 use Rattle.allocation.specs.TableOrder.{inPlanningOrder}
@@ -51,12 +52,13 @@ use Rattle.placing.specs.Limits.{placingAlone, placed}
 use Rattle.start.specs.Starts.{placedTasks, startOf}
 use Rattle.start.specs.Promise.{Starts}
 
--- What a call can be given: a stored table with any charge and core bytes beside it, one by itself, one in the new form, one that is to be moved back,
--- fields that stand in no bytes, and fields that are to be written. Its tests are those of its limits, and its conditions those of the paper's table.
+-- What a call can be given: a stored table with any charge and core bytes beside it, one by itself, one in the new form, one for bus drives, one that is
+-- to be moved back, fields that stand in no bytes, and fields that are to be written. Its tests are those of its limits, and its conditions those of the paper's table.
 pub record SoundForms : Type 0 where
   pub besides : (table : List ℕ) (charge : ℕ) (affinity : List ℕ) → Sound (beside table charge affinity)
   pub alones : (table : List ℕ) → Sound (alone table)
   pub news : (table : List ℕ) → Sound (new table)
+  pub buses : (table : List ℕ) → Sound (bus table)
   pub returneds : (table : List ℕ) → Sound (returned table)
   pub bares : (fields : Fields) → Sound (bare fields)
   pub writtens : (fields : Fields) → Sound (written fields)
@@ -64,6 +66,7 @@ pub record SoundForms : Type 0 where
   pub beside-stored : (table : List ℕ) (charge : ℕ) (affinity : List ℕ) → ReadsIn (FormBeside charge affinity) table (readingOf (beside table charge affinity))
   pub alone-stored : (table : List ℕ) → ReadsIn (FormBeside 0 (everyAffinity table)) table (readingOf (alone table))
   pub new-stored : (table : List ℕ) → ReadsIn NewForm table (readingOf (new table))
+  pub bus-stored : (table : List ℕ) → ReadsIn NewForm table (readingOf (bus table))
 
 -- Demand 1. The first two sentences are of the planner; the second is said of every other call as well.
 pub record DemandOne (t : Table) : Type 0 where

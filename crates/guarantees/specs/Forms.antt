@@ -14,6 +14,7 @@ use Rattle.oldform.specs.Form.{oldBytes, OldForm}
 use Rattle.oldform.specs.Limits.{beside, alone}
 use Rattle.newform.specs.Form.{newBytes, NewForm}
 use Rattle.newform.specs.Limits.{new}
+use Rattle.encoding.specs.Beside.{besideOf}
 use Rattle.storing.specs.Lent.{transferOf, exitOf}
 use Rattle.transfer.specs.Tables.{written, returned}
 use Rattle.storing.specs.Promise.{Stores, storedIn, Yields}
@@ -37,10 +38,6 @@ newIn table out = storedOf newBytes (alone table) out
 
 abbrev pub oldIn : List ℕ → List ℕ → List ℕ
 oldIn table out = storedOf oldBytes (returned table) out
-
--- a table of the new form in the old one, with its charge and its core bytes beside it
-abbrev pub besideOf : List ℕ → Table
-besideOf table = beside (oldBytes (new table .fields)) (new table .fields .charge) (take (new table .fields .n) (new table .fields .affinity))
 
 -- A call that is accepted, which stores the fields of a table of bytes.
 pub record Accepts (bytes : Fields → List ℕ) (t : Table) (table out : List ℕ) : Type 0 where

@@ -2,4 +2,5 @@ pub mod Demands
 pub mod Chain
 pub mod Forms
 pub mod Feeding
+pub mod Driving
 pub mod Rows

@@ -21,6 +21,7 @@ use Rattle.planner.specs.Plan.{planOf, verdictOutcome}
 use Rattle.planner.specs.declared.Allocation.{Allocation}
 use Rattle.planner.specs.declared.Verdict.{Verdict}
 use Rattle.planner.specs.declared.Verdict.the-variants.{All, Short, Spent}
+use Rattle.bus.specs.Limits.{bus}
 use Rattle.quick.specs.Quick.{quickOf}
 use Rattle.ceiling.specs.Ceiling.{ceilingOf}
 use Rattle.quickreport.specs.Output.{quickOutputOf}
@@ -63,7 +64,8 @@ outAfter call out = exitOf Buffer (bytesFor call) (tableFor call) out
 -- given slots, with the task run, the late task and the next slots, or its refusal's place. Of tables in the new form: their fields and hyperperiod, or
 -- the refusal of the reader; a stored table's length and the output, or the refusal, which leaves the output; the whole output of the program, and
 -- that of the quick one; the lines of a table and an answer that is given by hand; a dependency list's order, or its refusal, which gives zeros; the
--- whole output of the program for a table and a list. Last, a row of the calls before these on a board with a charge, and one with core bytes.
+-- whole output of the program for a table and a list. Of tables for bus drives: the hyperperiod of an accepted one; the refusal of reader and planner; a
+-- plan; the whole output of the program. Last, a row of the calls before these on a board with a charge, and one with core bytes.
 pub data Row : Type 0 where
   frames : List ℕ → ℕ → Row
   plans : List ℕ → ℕ → Verdict → List ℕ → ℕ → ℕ → Row
@@ -85,6 +87,10 @@ pub data Row : Type 0 where
   orders : List ℕ → List ℕ → List ℕ → Row
   refusesList : List ℕ → List ℕ → ℕ → ℕ → Row
   printsOrder : List ℕ → String → Row
+  framesBus : List ℕ → ℕ → Row
+  refusesBus : List ℕ → ℕ → ℕ → Row
+  plansBus : List ℕ → ℕ → Verdict → List ℕ → ℕ → ℕ → Row
+  printsBus : List ℕ → String → Row
   charged : ℕ → Row → Row
   tied : List ℕ → Row → Row
 
@@ -117,6 +123,12 @@ Holds charge bytes (lists table plan output) = planLines (readingOf (new table) 
 Holds charge bytes (orders table list tasks) = taskOrderOf (new table) list ≡ record { outcome = Accepted; order = row 0 (length tasks) (entry tasks) }
 Holds charge bytes (refusesList table list number place) = Gives (taskOrderOf (new table) list .outcome) number place × (taskOrderOf (new table) list .order ≡ replicate 16 0)
 Holds charge bytes (printsOrder input output) = feedsOutputOf input ≡ ascii output
+Holds charge bytes (framesBus table hyperperiod) = (readingOf (bus table) .outcome ≡ Accepted) × (readingOf (bus table) .tasks .hyperperiod ≡ hyperperiod)
+Holds charge bytes (refusesBus table number place) =
+    Gives (readingOf (bus table) .outcome) number place × Gives (verdictOutcome (planOf (bus table) 1000000 .verdict)) number place
+Holds charge bytes (plansBus table limit verdict cores rejected steps) =
+    planOf (bus table) limit ≡ record { verdict = verdict; placement = row 0 (length cores) (entry cores); rejected = rejected; steps = steps }
+Holds charge bytes (printsBus table output) = outputOf (bus table) ≡ ascii output
 Holds charge bytes (charged own row) = Holds own bytes row
 Holds charge bytes (tied own row) = Holds charge (λ table. own) row
 
@@ -392,6 +404,42 @@ feeds =
     ∷ printsOrder (0 ∷ 4 ∷ 1 ∷ 0 ∷ 10 ∷ []) "refused 4 0\n"
     ∷ []
 
+-- two tasks in the new form on one core with this charge, of these periods and times
+abbrev pub pairOf : ℕ → List ℕ → List ℕ → List ℕ
+pairOf charge periods times = newTable 1 charge periods times (1 ∷ 1 ∷ [])
+
+-- three tasks for bus drives on two cores, with a charge of 1, of which the second is tied to core 2
+abbrev pub driven : List ℕ
+driven = newTable 2 1 (8 ∷ 20 ∷ 625 ∷ []) (3 ∷ 9 ∷ 250 ∷ []) (3 ∷ 2 ∷ 3 ∷ [])
+
+-- Tables for bus drives. A period of 0 beside one that is not in the list; one that is not in the list beside a time above its period; the neighbour of a
+-- listed period. Number 22 beside a charge above 9, a time with no room for the charge, an unfit core byte, another length; and each of these without it.
+-- Periods whose multiple is too large for the general reader. Each listed period, in two tables. The largest hyperperiod. The listing, whole and spent; three
+-- tasks with charge and core bytes; what the program prints: the same, and a refusal.
+unfoldable pub drives : List Row
+drives =
+    refusesBus (pairOf 0 (3 ∷ 0 ∷ []) (1 ∷ 1 ∷ [])) 5 2
+    ∷ refusesBus (pairOf 0 (10 ∷ 3 ∷ []) (11 ∷ 1 ∷ [])) 22 2
+    ∷ refusesBus (pairOf 0 (9999 ∷ 10000 ∷ []) (1 ∷ 1 ∷ [])) 22 1
+    ∷ refusesBus (pairOf 10 (10 ∷ 3 ∷ []) (1 ∷ 1 ∷ [])) 13 0
+    ∷ refusesBus (pairOf 9 (10 ∷ 3 ∷ []) (2 ∷ 1 ∷ [])) 22 2
+    ∷ refusesBus (pairOf 9 (10 ∷ 4 ∷ []) (1 ∷ 1 ∷ [])) 14 2
+    ∷ refusesBus (newTable 1 0 (3 ∷ 10 ∷ []) (1 ∷ 1 ∷ []) (0 ∷ 1 ∷ [])) 22 1
+    ∷ refusesBus (newTable 1 0 (4 ∷ 10 ∷ []) (1 ∷ 1 ∷ []) (1 ∷ 2 ∷ [])) 15 2
+    ∷ refusesBus (newTable 1 0 (3 ∷ 10 ∷ []) (1 ∷ 1 ∷ []) (1 ∷ [])) 4 0
+    ∷ refusesBus (pairOf 0 (10 ∷ 4 ∷ []) (11 ∷ 1 ∷ [])) 6 1
+    ∷ refusesBus (pairOf 0 (1000 ∷ 1001 ∷ []) (1 ∷ 1 ∷ [])) 22 2
+    ∷ refusesBus (pairOf 0 (10000 ∷ 10001 ∷ []) (1 ∷ 1 ∷ [])) 5 2
+    ∷ framesBus (newTable 4 0 (1 ∷ 2 ∷ 4 ∷ 5 ∷ 8 ∷ 10 ∷ 16 ∷ 20 ∷ 25 ∷ 40 ∷ 50 ∷ 80 ∷ 100 ∷ 125 ∷ 200 ∷ 250 ∷ []) (replicate 16 1) (replicate 16 15)) 2000
+    ∷ framesBus (newTable 4 0 (400 ∷ 500 ∷ 625 ∷ 1000 ∷ 1250 ∷ 2000 ∷ 2500 ∷ 5000 ∷ 10000 ∷ []) (replicate 9 1) (replicate 9 15)) 10000
+    ∷ framesBus (pairOf 0 (16 ∷ 625 ∷ []) (1 ∷ 1 ∷ [])) 10000
+    ∷ plansBus newListing 6 Short (0 ∷ 1 ∷ 1 ∷ []) 7 6
+    ∷ plansBus newListing 5 Spent (1 ∷ 0 ∷ 0 ∷ []) 10 5
+    ∷ plansBus driven 1000000 All (1 ∷ 2 ∷ 1 ∷ []) 0 3
+    ∷ printsBus driven "table 3 2 5000\n1 8 3 1 2 1\n2 20 9 2 1 2\n3 625 250 1 2 1\nall 0 3\n"
+    ∷ printsBus (pairOf 0 (10 ∷ 3 ∷ []) (11 ∷ 1 ∷ [])) "refused 22 2\n"
+    ∷ []
+
 -- Of two tasks of equal weight the lower number is placed.
 -- Two tasks that no core holds together: display and axis loop of equal weight, where the axis loop's shorter period gives it the lower core;
 -- of equal weight and period, where the lower number has it; and the heavier one of longer period, which has it.
@@ -451,3 +499,4 @@ pub record WorkedRows : Type 0 where
   pub new-form : AllHold newTables
   pub moved-tables : AllHold moves
   pub feeding-tasks : AllHold feeds
+  pub bus-drives : AllHold drives

@@ -70,7 +70,7 @@ fn first_bad_affinity(f: Fields) -> usize
 }
 
 // Number 5.
-fn periods_test(f: Fields) -> Outcome
+pub fn periods_test(f: Fields) -> Outcome
     requires { ⌜ f .n ≤ 16 ⌝ }
     ensures { λ r. ⌜ r ≡ periodsTest f ⌝ }
 {

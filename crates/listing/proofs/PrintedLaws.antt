@@ -27,6 +27,10 @@ unfolding printed byOutcome
 printed-same Accepted h = h refl
 printed-same (Refused cause) h = refl
 
+pub printed-accepted : {o : Outcome} (lines : List ℕ) → o ≡ Accepted → printed o lines ≡ lines
+unfolding printed byOutcome
+printed-accepted lines e = rw e
+
 -- a refusal alone
 pub none-printed : {o : Outcome} {x : List ℕ} → o ≡ Accepted → x ≡ [] → x ≡ printed o []
 unfolding printed byOutcome

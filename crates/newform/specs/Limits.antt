@@ -6,13 +6,15 @@ use mathlib.Core.Bool.{not}
 use mathlib.Core.Logic.{_≢_}
 use lib.Dec.{eqb}
 use lib.ListN.{length, getD}
-use Rattle.refusal.specs.Tests.{_then_, refuseIf}
+use Rattle.refusal.specs.Tests.{_then_, refuseIf, inOrder}
 use Rattle.refusal.specs.Conditions.{Condition, only}
 use Rattle.refusal.specs.declared.Cause.the-variants.{FirstByte}
 use Rattle.refusal.specs.declared.Outcome.{Outcome}
+use Rattle.fields.specs.Tests.{limitTests}
 use Rattle.fields.specs.Limits.{Within, sizes, chargeAbove, periodOutside, budgetOutside, costAbove, affinityUnfit, multipleAbove}
+use Rattle.fields.specs.declared.Fields.{Fields}
 use Rattle.taskset.specs.Table.{Table}
-use Rattle.form.specs.Shape.{shortTest, tooShort, otherLength, formOutcome}
+use Rattle.form.specs.Shape.{shortTest, tooShort, otherLength, shapeOutcome}
 use Rattle.newform.specs.Form.{firstByte, taskCount, newLength, newFields}
 
 -- A table within the paper's limits: its first byte is 0, its length exact, and its fields are within theirs.
@@ -35,9 +37,13 @@ newConditions s =
     ++ otherLength (4 + 9 * getD s 1 0) s ∷ chargeAbove (newFields s) ∷ periodOutside (newFields s) ∷ budgetOutside (newFields s) ∷ costAbove (newFields s)
     ∷ affinityUnfit (newFields s) ∷ multipleAbove (newFields s) ∷ []
 
--- the outcome of the tests
+-- the tests of its shape, for the fields that it says: numbers 1, 17, 2, 3 and 4
+unfoldable pub newShape : List ℕ → Fields → Outcome
+newShape s f = shapeOutcome (shortTest 4 s then firstTest s) (newLength (taskCount s)) s f
+
+-- the outcome of the tests: the limits of the fields come behind them
 unfoldable pub newOutcome : List ℕ → Outcome
-newOutcome s = formOutcome (shortTest 4 s then firstTest s) (newLength (taskCount s)) s (newFields s)
+newOutcome s = newShape s (newFields s) then inOrder (limitTests (newFields s))
 
 -- A table in the new form.
 unfoldable pub new : List ℕ → Table

@@ -4,7 +4,7 @@ ghost use Rattle.taskset.specs.Promise.{Reads};
 ghost use Rattle.taskset.specs.Table.{readingOf, Decided};
 ghost use Rattle.form.specs.Layout.{ReadsIn};
 ghost use Rattle.newform.specs.Form.{newFields, NewForm};
-ghost use Rattle.newform.specs.Limits.{firstTest, new};
+ghost use Rattle.newform.specs.Limits.{firstTest, newShape, new};
 use fields::Fields;
 use refusal::Cause;
 use refusal::Outcome;
@@ -16,7 +16,7 @@ pub const LEAD: usize = 4;
 pub const EACH: usize = 9;
 
 // The fields that the bytes say; bytes past the end count as 0.
-fn decode(s: &[u8]) -> Fields
+pub fn decode(s: &[u8]) -> Fields
     ensures { λ r. ⌜ r ≡ newFields (now (s .entry)) ⌝ }
 {
     let n = wire::size(wire::byte(s, 1));
@@ -32,6 +32,17 @@ fn first_test(s: &[u8]) -> Outcome
     refusal::refuse_if(wire::byte(s, 0) != 0, Cause::FirstByte)
 }
 
+// The tests of a table's shape, for the fields that it says: numbers 1, 17, 2, 3 and 4.
+pub fn shape_tests(table: &[u8], f: Fields) -> Outcome
+    ensures { λ r. ⌜ r ≡ newShape (now (table .entry)) f ⌝ }
+{
+    let n = wire::size(wire::byte(table, 1));
+    let short = form::short_test(table, LEAD);
+    let first = first_test(table);
+    let front = refusal::then(short, first);
+    form::shape_tests(front, table, LEAD + EACH * n, f)
+}
+
 // Reads a table in the new form: its task set, or the first cause of refusal.
 pub fn read_new(table: &[u8]) -> Reading
     ensures answer { λ r. ⌜ r ≡ readingOf (new (now (table .entry))) ⌝ }
@@ -39,10 +50,7 @@ pub fn read_new(table: &[u8]) -> Reading
     ensures reads { λ r. ⌜ Reads r ⌝ }
     ensures stored { λ r. ⌜ ReadsIn NewForm (now (table .entry)) r ⌝ }
 {
-    let n = wire::size(wire::byte(table, 1));
     let f = decode(table);
-    let short = form::short_test(table, LEAD);
-    let first = first_test(table);
-    let front = refusal::then(short, first);
-    form::read(front, table, LEAD + EACH * n, f)
+    let shape = shape_tests(table, f);
+    taskset::check_after(shape, f)
 }

@@ -29,6 +29,7 @@ pub fn number(cause: Cause) -> u32
         Cause::PairList => 19,
         Cause::Pair(_) => 20,
         Cause::Circle(_) => 21,
+        Cause::BusPeriod(_) => 22,
     }
 }
 
@@ -58,5 +59,6 @@ pub fn place(cause: Cause) -> usize
         Cause::PairList => 0,
         Cause::Pair(pair) => pair,
         Cause::Circle(task) => task,
+        Cause::BusPeriod(task) => task,
     }
 }

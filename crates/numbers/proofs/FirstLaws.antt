@@ -109,9 +109,9 @@ module _ (p : ℕ → Bool) (n : ℕ) where
       let r = first-is (first p n - 1) (omega arith) in
       omega (arith, isFirst-unique r i)
 
--- a test and the statement that it decides
-pub isFirst-map : {P Q : ℕ → Type 0} {n k : ℕ} → ((j : ℕ) → P j → Q j) → ((j : ℕ) → Q j → P j) → IsFirst P n k → IsFirst Q n k
-isFirst-map f g i = record { below = i .below; here = f _ (i .here); none = λ j h q. i .none j h (g j q) }
+-- a test and the statement that it decides below n
+pub isFirst-map : {P Q : ℕ → Type 0} {n k : ℕ} → ((j : ℕ) → j < n → P j → Q j) → ((j : ℕ) → j < n → Q j → P j) → IsFirst P n k → IsFirst Q n k
+isFirst-map f g i = record { below = i .below; here = f _ (i .below) (i .here); none = λ j h q. i .none j h (g j (omega (arith, h, i .below)) q) }
 
 -- A loop over i from 0 to n that asks whether the test holds nowhere: it holds nowhere before i, or it does somewhere.
 pub record Clearing (p : ℕ → Bool) (n i : ℕ) (good : Bool) : Type 0 where

@@ -16,7 +16,7 @@ use Rattle.fields.specs.declared.Fields.{Fields}
 use Rattle.taskset.specs.declared.TaskSet.{TaskSet}
 use Rattle.taskset.specs.declared.Reading.{Reading}
 use Rattle.taskset.proofs.DemandLaws.{hyperperiod-held}
-use Rattle.taskset.proofs.TableLaws.{read-answer}
+use Rattle.taskset.proofs.TableLaws.{read-answer, answers-alike}
 use Rattle.planning.specs.Problem.{tableProblem, orderOf}
 use Rattle.planning.specs.Prepared.{Prepares}
 use Rattle.planning.specs.declared.Prepared.{Prepared}
@@ -117,3 +117,8 @@ module _ (t : Table) (limit : ℕ) where
 pub plan-table : (t : Table) {g : Reading} → g ≡ readingOf t → (limit : ℕ) {r : Allocation} → r ≡ planBy limit (g .outcome) (g .tasks .fields) → r ≡ planOf t limit
 unfolding planOf planBy
 plan-table t e limit w = w ∙ read-answer t e refusedPlan _
+
+-- tables that read alike have the same plan
+pub plan-alike : (t u : Table) → readingOf t ≡ readingOf u → (limit : ℕ) → planOf t limit ≡ planOf u limit
+unfolding planOf planBy
+plan-alike t u e limit = answers-alike t u e refusedPlan (λ f. planFor f limit)

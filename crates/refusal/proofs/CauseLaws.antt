@@ -5,12 +5,12 @@ use native.Mathlib.Omega.{arith}
 use Rattle.refusal.specs.Causes.{numberOf, placeOf}
 use Rattle.refusal.specs.CauseTable.{causeTable, Agrees}
 use Rattle.refusal.specs.declared.Cause.{Cause}
-use Rattle.refusal.specs.declared.Cause.the-variants.{TooShort, TaskCount, CoreCount, Length, Period, Budget, Hyperperiod, Buffer, Placement, CoreNumber, Overload, Slot, Charge, Cost, Affinity, NotPermitted, FirstByte, Filling, PairList, Pair, Circle}
+use Rattle.refusal.specs.declared.Cause.the-variants.{TooShort, TaskCount, CoreCount, Length, Period, Budget, Hyperperiod, Buffer, Placement, CoreNumber, Overload, Slot, Charge, Cost, Affinity, NotPermitted, FirstByte, Filling, PairList, Pair, Circle, BusPeriod}
 
 pub table-agrees : (p : ℕ) → Agrees (causeTable p)
-table-agrees p = (refl, refl, (refl, refl, (refl, refl, (refl, refl, (refl, refl, (refl, refl, (refl, refl, (refl, refl, (refl, refl, (refl, refl, (refl, refl, (refl, refl, (refl, refl, (refl, refl, (refl, refl, (refl, refl, (refl, refl, (refl, refl, (refl, refl, (refl, refl, (refl, refl, tt)))))))))))))))))))))
+table-agrees p = (refl, refl, (refl, refl, (refl, refl, (refl, refl, (refl, refl, (refl, refl, (refl, refl, (refl, refl, (refl, refl, (refl, refl, (refl, refl, (refl, refl, (refl, refl, (refl, refl, (refl, refl, (refl, refl, (refl, refl, (refl, refl, (refl, refl, (refl, refl, (refl, refl, (refl, refl, tt))))))))))))))))))))))
 
-pub number-range : (c : Cause) → (1 ≤ numberOf c) × (numberOf c ≤ 21)
+pub number-range : (c : Cause) → (1 ≤ numberOf c) × (numberOf c ≤ 22)
 number-range TooShort = (omega arith, omega arith)
 number-range TaskCount = (omega arith, omega arith)
 number-range CoreCount = (omega arith, omega arith)
@@ -32,6 +32,7 @@ number-range Filling = (omega arith, omega arith)
 number-range PairList = (omega arith, omega arith)
 number-range (Pair pair) = (omega arith, omega arith)
 number-range (Circle task) = (omega arith, omega arith)
+number-range (BusPeriod task) = (omega arith, omega arith)
 
 -- number and place go by the case of the cause
 pub number-of : {c d : Cause} {x : ℕ} → c ≡ d → x ≡ numberOf d → x ≡ numberOf c

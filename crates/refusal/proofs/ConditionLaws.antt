@@ -54,7 +54,7 @@ first-front : (cs ds : List Condition) (k p : ℕ) → First cs k p → First (c
 first-front (c ∷ cs) ds k p (inl a) = inl a
 first-front (c ∷ cs) ds k p (inr a) = inr (a .0, first-front cs ds k p (a .1))
 
-first-behind : (cs ds : List Condition) (k p : ℕ) → None cs → First ds k p → First (cs ++ ds) k p
+pub first-behind : (cs ds : List Condition) (k p : ℕ) → None cs → First ds k p → First (cs ++ ds) k p
 first-behind [] ds k p n f = f
 first-behind (c ∷ cs) ds k p n f = inr (n .0, first-behind cs ds k p (n .1) f)
 
@@ -64,14 +64,14 @@ first-either [] ds k p f = inr (tt, f)
 first-either (c ∷ cs) ds k p (inl a) = inl (inl a)
 first-either (c ∷ cs) ds k p (inr a) = ⊎-map (λ f. inr (a .0, f)) (λ f. ((a .0, f .0), f .1)) (first-either cs ds k p (a .1))
 
--- the numbers of a list of conditions are at most this
-abbrev pub NumbersTo : ℕ → List Condition → Type 0
-NumbersTo most [] = Unit {0}
-NumbersTo most (c ∷ cs) = (numbered c ≤ most) × NumbersTo most cs
+-- the numbers of a list of conditions are all of this kind, and so is that of the first to hold
+abbrev pub Numbers : (ℕ → Type 0) → List Condition → Type 0
+Numbers P [] = Unit {0}
+Numbers P (c ∷ cs) = P (numbered c) × Numbers P cs
 
-pub first-to : (most : ℕ) (cs : List Condition) → NumbersTo most cs → (k p : ℕ) → First cs k p → k ≤ most
-first-to most (c ∷ cs) h k p (inl a) = rw (a .0) (h .0)
-first-to most (c ∷ cs) h k p (inr a) = first-to most cs (h .1) k p (a .1)
+pub first-number : (P : ℕ → Type 0) (cs : List Condition) → Numbers P cs → (k p : ℕ) → First cs k p → P k
+first-number P (c ∷ cs) h k p (inl a) = rw (a .0) (h .0)
+first-number P (c ∷ cs) h k p (inr a) = first-number P cs (h .1) k p (a .1)
 
 -- a condition that does not hold where those before it do not can be left out of a list
 module _ (c : Condition) (ds : List Condition) where
@@ -117,7 +117,7 @@ test-at {P} {p} {n} {number} cause is h = record {
       let r = refuseAt-refused (first p n) cause d e in
       inl (
         ap numberOf (sym (r .2)) ∙ is (suc (r .0)) .0,
-        (r .0, ap placeOf (sym (r .2)) ∙ is (suc (r .0)) .1, isFirst-map (λ k. h k .0) (λ k. h k .1) (first-is p n (r .0) (r .1))),
+        (r .0, ap placeOf (sym (r .2)) ∙ is (suc (r .0)) .1, isFirst-map (λ k b. h k .0) (λ k b. h k .1) (first-is p n (r .0) (r .1))),
       );
 }
 

@@ -78,6 +78,12 @@ inOrder-append [] us = refl
 inOrder-append (Accepted ∷ ts) us = inOrder-append ts us
 inOrder-append (Refused c ∷ ts) us = refl
 
+-- three tests, the first two or all of them first
+pub then-then : (a b c : Outcome) → (a then b) then c ≡ a then (b then c)
+unfolding _then_
+then-then Accepted b c = refl
+then-then (Refused d) b c = refl
+
 -- The steps of a program that makes its tests and joins them.
 pub refuse-at-by : (c : ℕ → Cause) {k w : ℕ} {r : Outcome} → r ≡ refuseIf (not (eqb k 0)) (c k) → k ≡ w → r ≡ refuseAt w c
 unfolding refuseIf refuseAt

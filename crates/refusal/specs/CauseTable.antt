@@ -4,7 +4,7 @@ use mathlib.Core.Path.{_≡_}
 use mathlib.Core.List.{List, [], _∷_}
 use Rattle.refusal.specs.Causes.{numberOf, placeOf}
 use Rattle.refusal.specs.declared.Cause.{Cause}
-use Rattle.refusal.specs.declared.Cause.the-variants.{TooShort, TaskCount, CoreCount, Length, Period, Budget, Hyperperiod, Buffer, Placement, CoreNumber, Overload, Slot, Charge, Cost, Affinity, NotPermitted, FirstByte, Filling, PairList, Pair, Circle}
+use Rattle.refusal.specs.declared.Cause.the-variants.{TooShort, TaskCount, CoreCount, Length, Period, Budget, Hyperperiod, Buffer, Placement, CoreNumber, Overload, Slot, Charge, Cost, Affinity, NotPermitted, FirstByte, Filling, PairList, Pair, Circle, BusPeriod}
 
 -- A row of the table: a cause, its number, its place.
 pub data CauseRow : Type 0 where
@@ -34,6 +34,7 @@ causeTable p =
     ∷ cause PairList 19 0
     ∷ cause (Pair p) 20 p
     ∷ cause (Circle p) 21 p
+    ∷ cause (BusPeriod p) 22 p
     ∷ []
 
 -- Number and place of each row are those that the definitions give its cause.

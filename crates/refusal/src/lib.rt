@@ -25,6 +25,7 @@ pub enum Cause {
     PairList,
     Pair(usize),
     Circle(usize),
+    BusPeriod(usize),
 }
 
 // What a test, or several made in order, say of a call.

@@ -3,9 +3,10 @@ use Prim.Native.Nat.{ℕ}
 use mathlib.Core.List.{List, _++_}
 use Rattle.text.specs.Ascii.{ascii}
 use Rattle.decimal.specs.Decimal.{field}
+use Rattle.taskset.specs.declared.Reading.{Reading}
 use Rattle.taskset.specs.declared.TaskSet.{TaskSet}
 use Rattle.taskset.specs.Table.{Table, readingOf}
-use Rattle.planner.specs.Plan.{planOf, verdictOutcome}
+use Rattle.planner.specs.Plan.{planFor, planOf, verdictOutcome}
 use Rattle.planner.specs.declared.Allocation.{Allocation}
 use Rattle.planner.specs.declared.Verdict.{Verdict}
 use Rattle.planner.specs.declared.Verdict.the-variants.{All, Short, Spent, Refused}
@@ -26,6 +27,10 @@ summaryLine plan = verdictWord (plan .verdict) ++ field (plan .rejected) ++ fiel
 -- the lines of a plan
 unfoldable pub planLines : TaskSet → Allocation → List ℕ
 planLines t plan = tableLines t (plan .placement) ++ summaryLine plan
+
+-- the output for a table that was read: its plan within 1,000,000 steps, or its refusal
+unfoldable pub readOutput : Reading → List ℕ
+readOutput reading = printed (reading .outcome) (planLines (reading .tasks) (planFor (reading .tasks .fields) 1000000))
 
 -- the output for a table: its plan within 1,000,000 steps
 unfoldable pub outputOf : Table → List ℕ

@@ -1,13 +1,15 @@
 // The whole output of the program `millplan` for the bytes of a table in the new form.
 ghost use mathlib.Core.Path.{_≡_};
 ghost use Prim.Native.Nat.{_≤_};
+ghost use Rattle.taskset.specs.Promise.{Reads};
 ghost use Rattle.newform.specs.Limits.{new};
 ghost use Rattle.text.specs.Shown.{shown, Appended};
-ghost use Rattle.report.specs.Output.{verdictWord, summaryLine, planLines, outputOf};
+ghost use Rattle.report.specs.Output.{verdictWord, summaryLine, planLines, readOutput, outputOf};
 ghost use Rattle.report.specs.Reported.{Reported, PlanReadBack};
 use planner::Allocation;
 use planner::Verdict;
 use refusal::Outcome;
+use taskset::Reading;
 use taskset::TaskSet;
 use text::Text;
 
@@ -47,13 +49,11 @@ fn plan_report(t: TaskSet, plan: Allocation) -> Text
     append_summary(table, plan)
 }
 
-// The program's output for the bytes of a table: the plan, or the first refusal alone.
-pub fn report(table: &[u8]) -> Text
-    ensures answer { λ r. ⌜ shown r ≡ outputOf (new (now (table .entry))) ⌝ }
-    ensures reported { λ r. ⌜ Reported (new (now (table .entry))) (shown r) ⌝ }
-    ensures read_back { λ r. ⌜ PlanReadBack (new (now (table .entry))) (shown r) ⌝ }
+// The output for a table that was read, whatever its form and its tests: the plan, or the first refusal alone.
+pub fn report_read(reading: Reading) -> Text
+    requires { ⌜ Reads reading ⌝ }
+    ensures { λ r. ⌜ shown r ≡ readOutput reading ⌝ }
 {
-    let reading = newform::read_new(table);
     let outcome = reading.outcome;
     let Outcome::Accepted = outcome else {
         return listing::refusal_report(outcome);
@@ -64,4 +64,14 @@ pub fn report(table: &[u8]) -> Text
         return listing::refusal_report(planner::verdict_outcome(verdict));
     };
     plan_report(reading.tasks, plan)
+}
+
+// The program's output for the bytes of a table.
+pub fn report(table: &[u8]) -> Text
+    ensures answer { λ r. ⌜ shown r ≡ outputOf (new (now (table .entry))) ⌝ }
+    ensures reported { λ r. ⌜ Reported (new (now (table .entry))) (shown r) ⌝ }
+    ensures read_back { λ r. ⌜ PlanReadBack (new (now (table .entry))) (shown r) ⌝ }
+{
+    let reading = newform::read_new(table);
+    report_read(reading)
 }

@@ -46,7 +46,7 @@ plain-late slots =
     (λ z. inl (z, λ i h o. true≢false (sym (late-tests (slotAt slots i) o) ∙ first-zero (slotTest lateOf slots) 16 z i h)))
     (λ n. let e : firstLate slots ≡ suc (firstLate slots - 1) = omega arith in
     let f = first-is (slotTest lateOf slots) 16 (firstLate slots - 1) e in
-    inr (firstLate slots - 1, e, isFirst-map (λ i. late-says (slotAt slots i)) (λ i. late-tests (slotAt slots i)) f))
+    inr (firstLate slots - 1, e, isFirst-map (λ i b. late-says (slotAt slots i)) (λ i b. late-tests (slotAt slots i)) f))
 
 -- The releases.
 plain-release : (charge asked : ℕ) (s : Slot) → PeriodBegins s → PlainRelease charge asked s (releaseSlot charge asked s)

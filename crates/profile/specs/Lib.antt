@@ -1,0 +1,2 @@
+pub mod Periods
+pub mod Tests
