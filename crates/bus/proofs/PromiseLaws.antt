@@ -4,21 +4,22 @@ use mathlib.Core.Path.{_≡_, refl, sym, _∙_, ap}
 use mathlib.Core.List.{List, [], _∷_, _++_}
 use mathlib.Core.Logic.{_⊎_, inl, inr, ⊎-elim, _≢_, _↔_}
 use native.Mathlib.Omega.{arith}
+use Rattle.numbers.specs.Bounds.{Outside}
 use Rattle.numbers.proofs.BoundLaws.{not-outside}
 use Rattle.numbers.proofs.FirstLaws.{isFirst-map}
 use Rattle.refusal.specs.Causes.{numberOf, numberIn, placeIn}
 use Rattle.refusal.specs.Tests.{_then_, refuseAt, inOrder}
-use Rattle.refusal.specs.Conditions.{Condition, None, First, Gives}
+use Rattle.refusal.specs.Conditions.{Condition, None, First, Gives, Reports}
 use Rattle.refusal.specs.declared.Cause.{Cause}
 use Rattle.refusal.specs.declared.Cause.the-variants.{BusPeriod}
 use Rattle.refusal.specs.declared.Outcome.{Outcome}
 use Rattle.refusal.specs.declared.Outcome.the-variants.{Accepted, Refused}
 use Rattle.refusal.proofs.CauseLaws.{number-range}
 use Rattle.refusal.proofs.TestLaws.{outcome-cases, refuseAt-refused}
-use Rattle.refusal.proofs.ConditionLaws.{decides, first-behind, first-either, Numbers, first-number}
+use Rattle.refusal.proofs.ConditionLaws.{decides, none-first, none-append, first-behind, first-either, Numbers, first-number}
 use Rattle.fields.specs.Fields.{periodAt}
 use Rattle.fields.specs.Tests.{limitTests}
-use Rattle.fields.specs.Limits.{budgetOutside, costAbove, affinityUnfit}
+use Rattle.fields.specs.Limits.{budgetOutside, costAbove, affinityUnfit, multipleAbove}
 use Rattle.fields.specs.declared.Fields.{Fields}
 use Rattle.profile.specs.Periods.{Listed}
 use Rattle.profile.specs.Tests.{listTest, periodUnlisted}
@@ -30,6 +31,7 @@ use Rattle.taskset.proofs.TableLaws.{table-accepts, read-outcome, read-fields, 
 use Rattle.form.specs.Layout.{ReadsIn}
 use Rattle.newform.specs.Form.{newFields, NewForm}
 use Rattle.newform.specs.Limits.{new, newOutcome}
+use Rattle.newform.proofs.NewLaws.{new-tested}
 use Rattle.encoding.specs.Beside.{besideOf}
 use Rattle.encoding.proofs.BesideLaws.{reads-beside}
 use Rattle.planner.specs.Plan.{planBy, planOf, verdictOutcome}
@@ -38,7 +40,7 @@ use Rattle.planner.specs.declared.Allocation.{Allocation}
 use Rattle.planner.proofs.PlanLaws.{plan-alike}
 use Rattle.planner.proofs.PromiseLaws.{plan-outcome, plan-all}
 use Rattle.bus.specs.Limits.{ValidBus, earlier, busConditions, busTests, busOutcome, bus}
-use Rattle.bus.specs.Promise.{FirstOther, Profile, BusReads, BusPlans}
+use Rattle.bus.specs.Promise.{OneOf, FirstOther, Profile, BusReads, BusPlans}
 use Rattle.bus.proofs.BusLaws.{bus-tested, bus-sound, bus-stored}
 
 -- ---- number 22 beside the general tests
@@ -101,6 +103,64 @@ module _ (s : List ℕ) where
     λ h. let d = divides-listed (h .0) in (h .0, (h .1 .0, h .1 .1, isFirst-map (λ k b u x. u (d k b .0 x)) (λ k b u x. u (d k b .1 x)) (h .1 .2))),
   )
 
+  -- ---- the numbers that come before 22
+
+  abbrev early : List ℕ
+  early = 1 ∷ 17 ∷ 2 ∷ 3 ∷ 4 ∷ 13 ∷ 5 ∷ []
+
+  early-numbers : Numbers (OneOf early) (earlier s)
+  early-numbers = (
+    inl refl,
+    (inr (inl refl), (inr (inr (inl refl)), (inr (inr (inr (inl refl))), (inr (inr (inr (inr (inl refl)))), (inr (inr (inr (inr (inr (inl refl))))), (inr (inr (inr (inr (inr (inr (inl refl)))))), tt)))))),
+  )
+
+  not-early : (k : ℕ) → Outside 1 5 k → k ≢ 13 → k ≢ 17 → OneOf early k → ⊥
+  not-early k h n m (inl e) = not-outside 1 5 k .1 (omega arith, omega arith) h
+  not-early k h n m (inr (inl e)) = m e
+  not-early k h n m (inr (inr (inl e))) = not-outside 1 5 k .1 (omega arith, omega arith) h
+  not-early k h n m (inr (inr (inr (inl e)))) = not-outside 1 5 k .1 (omega arith, omega arith) h
+  not-early k h n m (inr (inr (inr (inr (inl e))))) = not-outside 1 5 k .1 (omega arith, omega arith) h
+  not-early k h n m (inr (inr (inr (inr (inr (inl e)))))) = n e
+  not-early k h n m (inr (inr (inr (inr (inr (inr (inl e))))))) = not-outside 1 5 k .1 (omega arith, omega arith) h
+
+  -- what the general reader tests behind them
+  abbrev behind : List Condition
+  behind = budgetOutside f ∷ costAbove f ∷ affinityUnfit f ∷ multipleAbove f ∷ []
+
+  behind-numbers : Numbers (λ k. OneOf early k → ⊥) behind
+  behind-numbers =
+      (other 6 (omega arith), (other 14 (omega arith), (other 15 (omega arith), (other 7 (omega arith), tt))))
+    where
+      other : (k : ℕ) → (5 < k) × (k ≢ 13) × (k ≢ 17) → OneOf early k → ⊥
+      other k h = not-early k (inr (h .0)) (h .1) (h .2)
+
+  module _ {o : Outcome} (r : Reports (earlier s ++ behind) o) where
+    none-early : None (earlier s) → OneOf early (numberIn o) → ⊥
+    none-early n =
+        ⊎-elim
+        (λ e. rw e (not-early 0 (inl (omega arith)) (λ z. omega arith) (λ z. omega arith)))
+        (λ e.
+        rw (e .1) (⊎-elim
+        (λ a. absurd (none-first (earlier s) _ _ n a))
+        (λ a. first-number (λ k. OneOf early k → ⊥) behind behind-numbers _ _ (a .1))
+        (first-either (earlier s) behind _ _ (r .refused (e .0) (e .1)))))
+        (outcome-cases o)
+
+    early-none : (OneOf early (numberIn o) → ⊥) → None (earlier s)
+    early-none n =
+        ⊎-elim
+        (λ e. none-append (earlier s) behind .0 (r .accepted e) .0)
+        (λ e.
+        ⊎-elim
+        (λ a. absurd (n (rw (e .1) (first-number (OneOf early) (earlier s) early-numbers _ _ a))))
+        (λ a. a .0)
+        (first-either (earlier s) behind _ _ (r .refused (e .0) (e .1))))
+        (outcome-cases o)
+
+  before-said : None (earlier s) ↔ (OneOf early (numberIn (new s .outcome)) → ⊥)
+  unfolding new
+  before-said = let r = new-tested s .reports in (none-early r, early-none r)
+
   -- ---- what is promised of the outcome
 
   module _ {o : Outcome} (e : o ≡ bus s .outcome) where
@@ -120,6 +180,7 @@ module _ (s : List ℕ) where
     profile-kept = record {
       unlisted = at-task;
       undivided = λ task. (λ g. by-division task .0 (at-task task .0 g), λ h. at-task task .1 (by-division task .1 h));
+      before = before-said;
       agrees = λ n. e ∙ unless s (λ z. n (ap numberIn e ∙ z));
       never = never-seven;
     }

@@ -1,8 +1,8 @@
 -- What is promised of the answers for bus drives, beside the general reader's and the exact planner's.
 use Prim.Native.Nat.{ℕ, _∣_}
 use mathlib.Core.Path.{_≡_}
-use mathlib.Core.List.{List}
-use mathlib.Core.Logic.{_≢_, _↔_}
+use mathlib.Core.List.{List, [], _∷_}
+use mathlib.Core.Logic.{_⊎_, _≢_, _↔_}
 use Rattle.numbers.specs.First.{FirstAt}
 use Rattle.refusal.specs.Causes.{numberIn}
 use Rattle.refusal.specs.Conditions.{None, Gives}
@@ -18,6 +18,11 @@ use Rattle.planner.specs.Plan.{planOf, verdictOutcome}
 use Rattle.planner.specs.declared.Allocation.{Allocation}
 use Rattle.bus.specs.Limits.{earlier, bus}
 
+-- The number is one of these.
+abbrev pub OneOf : List ℕ → ℕ → Type 0
+OneOf [] number = ⊥
+OneOf (n ∷ ns) number = (number ≡ n) ⊎ OneOf ns number
+
 -- None of numbers 1, 17, 2, 3, 4, 13 and 5 holds, and this task, from 1, is the first whose period is not so.
 abbrev pub FirstOther : (ℕ → Type 0) → List ℕ → ℕ → Type 0
 FirstOther Good s task = None (earlier s) × FirstAt (λ k. Good (periodAt (newFields s) k) → ⊥) (newFields s .n) task
@@ -28,6 +33,8 @@ pub record Profile (s : List ℕ) (outcome : Outcome) : Type 0 where
   pub unlisted : (task : ℕ) → Gives outcome 22 task ↔ FirstOther Listed s task
   -- which is the first whose period does not divide 10,000.
   pub undivided : (task : ℕ) → Gives outcome 22 task ↔ FirstOther (λ period. period ∣ 10000) s task
+  -- None of those numbers holds exactly if the general reader's is none of them.
+  pub before : None (earlier s) ↔ (OneOf (1 ∷ 17 ∷ 2 ∷ 3 ∷ 4 ∷ 13 ∷ 5 ∷ []) (numberIn (new s .outcome)) → ⊥)
   -- Unless it is 22, number and place are the general reader's,
   pub agrees : numberIn outcome ≢ 22 → outcome ≡ new s .outcome
   -- and number 7 never occurs.

@@ -413,7 +413,8 @@ abbrev pub driven : List ℕ
 driven = newTable 2 1 (8 ∷ 20 ∷ 625 ∷ []) (3 ∷ 9 ∷ 250 ∷ []) (3 ∷ 2 ∷ 3 ∷ [])
 
 -- Tables for bus drives. A period of 0 beside one that is not in the list; one that is not in the list beside a time above its period; the neighbour of a
--- listed period. Number 22 beside a charge above 9, a time with no room for the charge, an unfit core byte, another length; and each of these without it.
+-- listed period. Number 22 beside a charge above 9, a time with no room for the charge, an unfit core byte, another length, five cores, a first byte
+-- other than 0, seventeen tasks, too few bytes; and some of these without it.
 -- Periods whose multiple is too large for the general reader. Each listed period, in two tables. The largest hyperperiod. The listing, whole and spent; three
 -- tasks with charge and core bytes; what the program prints: the same, and a refusal.
 unfoldable pub drives : List Row
@@ -427,6 +428,10 @@ drives =
     ∷ refusesBus (newTable 1 0 (3 ∷ 10 ∷ []) (1 ∷ 1 ∷ []) (0 ∷ 1 ∷ [])) 22 1
     ∷ refusesBus (newTable 1 0 (4 ∷ 10 ∷ []) (1 ∷ 1 ∷ []) (1 ∷ 2 ∷ [])) 15 2
     ∷ refusesBus (newTable 1 0 (3 ∷ 10 ∷ []) (1 ∷ 1 ∷ []) (1 ∷ [])) 4 0
+    ∷ refusesBus (newTable 5 0 (3 ∷ []) (1 ∷ []) (1 ∷ [])) 3 0
+    ∷ refusesBus (1 ∷ 1 ∷ 1 ∷ 0 ∷ 3 ∷ 0 ∷ 0 ∷ 0 ∷ 1 ∷ 0 ∷ 0 ∷ 0 ∷ 1 ∷ []) 17 0
+    ∷ refusesBus (0 ∷ 17 ∷ 1 ∷ 0 ∷ []) 2 0
+    ∷ refusesBus (0 ∷ 1 ∷ 1 ∷ []) 1 0
     ∷ refusesBus (pairOf 0 (10 ∷ 4 ∷ []) (11 ∷ 1 ∷ [])) 6 1
     ∷ refusesBus (pairOf 0 (1000 ∷ 1001 ∷ []) (1 ∷ 1 ∷ [])) 22 2
     ∷ refusesBus (pairOf 0 (10000 ∷ 10001 ∷ []) (1 ∷ 1 ∷ [])) 5 2
