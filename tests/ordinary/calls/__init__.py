@@ -11,8 +11,8 @@
 
 A further call is a further module, named here."""
 
-from calls import (ceiling, core, dependencies, plan, quick, read, read_setup, tick, to_new, to_old,
-                   write_setup)
+from calls import (ceiling, core, dependencies, plan, plan_bus, quick, read, read_bus, read_setup,
+                   tick, to_new, to_old, write_setup)
 
 CALLS = [read, plan, core, tick, quick, ceiling, read_setup, write_setup, to_new, to_old,
-         dependencies]
+         dependencies, read_bus, plan_bus]

@@ -18,9 +18,12 @@ def contents(table, charge, core_bytes, limit):
 
 
 def lines(table, charge, core_bytes, limit):
-    answer = plan(table, charge, core_bytes, limit)
-    return [[answer.number, answer.place, answer.verdict, answer.rejected, answer.steps,
-             *answer.placement]]
+    return [line_of(plan(table, charge, core_bytes, limit))]
+
+
+def line_of(answer):
+    """The line of an Answer."""
+    return [*answer[:-1], *answer.placement]
 
 
 def edges():

@@ -16,13 +16,17 @@ def contents(setup):
 
 
 def lines(setup):
-    answer = read_setup(setup)
+    return [line_of(read_setup(setup))]
+
+
+def line_of(answer):
+    """The line of a Refusal or of a TaskSet."""
     if isinstance(answer, Refusal):
-        return [[*answer] + [0] * 52]
+        return [*answer] + [0] * 52
     core_bytes = [sum(2**(core - 1) for core in cores) for cores in answer.permitted]
     rows = [answer.periods, answer.budgets, core_bytes]
-    return [[0, 0, answer.n, answer.m, answer.charge, answer.hyperperiod,
-             *sum(map(sixteen, rows), [])]]
+    return [0, 0, answer.n, answer.m, answer.charge, answer.hyperperiod,
+            *sum(map(sixteen, rows), [])]
 
 
 def edges():
