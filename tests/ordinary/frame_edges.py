@@ -8,8 +8,8 @@ import subprocess
 import sys
 
 import frame
-from calls import (ceiling, core, dependencies, plan, quick, read, read_setup, tick, to_new, to_old,
-                   write_setup)
+from calls import (ceiling, core, dependencies, plan, plan_bus, quick, read, read_bus, read_setup,
+                   tick, to_new, to_old, write_setup)
 from dependency_samples import list_of
 from samples import LARGEST_WORD, setup_of, table_of
 from ticks import EMPTY, Record, Slot
@@ -19,11 +19,12 @@ FULL = [LARGEST_WORD] * 16
 ROW_C = table_of(1, [2, 3, 6], [1, 1, 1])
 FOUR_EIGHT = table_of(2, [4, 8], [1, 3])
 SETUP = setup_of(2, 0, [4, 8], [1, 3], [3, 3])
+UNLISTED = setup_of(2, 0, [4, 12], [1, 3], [3, 3])
 FIELDS = 1, 2, 1, [4] * 16, [1] * 16, bytes([3] * 16)
 
 # A small input of each call, of a fresh core one accepted, one refused and one without a tick; of
 # the writer and the moves one with an output that is too short; of the dependency check one with a
-# circle and one without a list.
+# circle and one without a list; of the drive-bus profile one with a period that is not in its list.
 SMALL = [
     (read, (ROW_C,)),
     (plan, (table_of(2, [10] * 3, [7, 6, 4]), 1, bytes([1, 1, 2]), 6)),
@@ -43,6 +44,10 @@ SMALL = [
     (dependencies, (SETUP, list_of([(2, 1)]))),
     (dependencies, (SETUP, list_of([(2, 1), (1, 2)]))),
     (dependencies, (SETUP, b"")),
+    (read_bus, (SETUP,)),
+    (read_bus, (UNLISTED,)),
+    (plan_bus, (SETUP, 6)),
+    (plan_bus, (UNLISTED, 6)),
 ]
 GOOD = frame.case(read.CODE, [ROW_C])
 
@@ -105,7 +110,8 @@ def wrong_lengths():
                         (read_setup, (setup,)), (write_setup, (*FIELDS, row)),
                         (to_new, (longest, row)), (to_new, (FOUR_EIGHT, row)),
                         (to_old, (setup, row)), (to_old, (SETUP, row)),
-                        (dependencies, (setup, row)), (dependencies, (SETUP, row))):
+                        (dependencies, (setup, row)), (dependencies, (SETUP, row)),
+                        (read_bus, (setup,)), (plan_bus, (setup, 0))):
         yield frame.case(call.CODE, call.contents(*given)) + GOOD, (
             standing(call, given, call.HEAD) + standing(read, (ROW_C,), 1))
 
