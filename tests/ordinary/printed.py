@@ -1,7 +1,8 @@
 """Holds what a program prints to what the ordinary programs say, byte for byte. The program's name
-says which it is: millplan prints the exact plan of a set-up and quickplan the quick one; tonew
-moves a table to the new form and toold a set-up back, and say a refusal on standard error; feeds
-prints the order of a set-up's tasks by the dependency list behind it.
+says which it is: millplan prints the exact plan of a set-up, quickplan the quick one and busplan
+the exact one in the drive-bus profile; tonew moves a table to the new form and toold a set-up back,
+and say a refusal on standard error; feeds prints the order of a set-up's tasks by the dependency
+list behind it.
 
 usage: python3 printed.py SEED COUNT PROGRAM
 """
@@ -12,14 +13,16 @@ from collections import namedtuple
 from os.path import basename
 from random import Random
 
+from bus import PERIODS, read_bus
+from bus_samples import bus_edges, planned_boards, random_bus_setup
 from dependencies import check_dependencies
 from dependency_samples import (damaged_dependencies, dependency_edges, list_of,
                                 random_dependencies, setup_with)
 from plans import USUAL_LIMIT, plan
 from quick_plans import quick_plan
 from samples import (charges, core_byte_edges, damaged, entries, first_fits, hyperperiods,
-                     lowest_permitted, paper_rows, put, random_table, shapes, telling_tables,
-                     tied_boards, untied)
+                     lowest_permitted, paper_rows, put, random_table, setup_of, shapes,
+                     telling_tables, tied_boards, untied)
 from setup_samples import (damaged_setup, old_tables, random_board, setup_faults, setup_from,
                            setup_rows, setup_shapes, setups_from)
 from setups import board_in, move_back, move_to_new, read_setup
@@ -43,15 +46,19 @@ def main():
 # Standard output and standard error.
 
 def exact_report(setup):
-    return report(setup, exact)
+    return report(setup, read_setup, exact)
 
 
 def quick_report(setup):
-    return report(setup, quick)
+    return report(setup, read_setup, quick)
 
 
-def report(setup, planned):
-    tasks = read_setup(setup)
+def bus_report(setup):
+    return report(setup, read_bus, exact)
+
+
+def report(setup, read, planned):
+    tasks = read(setup)
     if isinstance(tasks, Refusal):
         return text([("refused", *tasks)]), b""
     placement, last = planned(setup)
@@ -127,6 +134,16 @@ def setups(rng, count, most):
             + setups_from(boards) + long_setups(rng) + [damaged_setup(rng, row) for row in drawn])
 
 
+def bus_setups(rng, count):
+    """Set-ups for every period and refusal of the drive-bus profile and for every way of planning,
+    the longest and inputs longer than the program reads, and random ones."""
+    made = bus_edges() + setups_from(planned_boards()[::2])
+    few = [setup for setup in made if len(setup) < 2 or setup[1] <= 6]
+    longest = setup_of(3, 9, PERIODS[-16:], [1] * 16, [7] * 16)
+    return (few + long_setups(rng) + [longest, longest[:-1], longest + b"\0", longest + bytes(5000)]
+            + [random_bus_setup(rng, 6) for _ in range(count)])
+
+
 def fillings(rng, count):
     """Set-ups that are mostly what the move to the new form gives."""
     drawn = [random_board(rng) for _ in range(count)]
@@ -174,6 +191,7 @@ Program = namedtuple("Program", "most_read expected inputs")
 PROGRAMS = {
     "millplan": Program(149, exact_report, few_setups),
     "quickplan": Program(149, quick_report, many_setups),
+    "busplan": Program(149, bus_report, bus_setups),
     "tonew": Program(131, moved_to_new, tables),
     "toold": Program(149, moved_back, fillings),
     "feeds": Program(278, order_report, fed_setups),
