@@ -1,12 +1,14 @@
 """Holds the ordinary programs against rows a to l of the scope paper, and rows worked by hand.
 Where no charge is given it is 0, and where no core bytes are given every core is permitted."""
 
+from bus import CLOCK, PERIODS, plan_bus, read_bus
 from ceilings import step_ceiling
 from dependencies import check_dependencies
 from dependency_samples import list_of
 from samples import LARGEST_WORD, put, setup_of, stretched, table_of, telling_tables
 from plans import ALL, SHORT, SPENT, USUAL_LIMIT, plan
-from printed import exact_report, moved_back, moved_to_new, order_report, quick_report
+from printed import (bus_report, exact_report, moved_back, moved_to_new, order_report,
+                     quick_report)
 from quick_plans import quick_plan
 from setups import move_back, move_to_new, read_setup, write_setup
 from tables import Refusal, every_core, read_board, read_table
@@ -130,6 +132,14 @@ def fed(*pairs, periods=(10,) * 4):
 def counted(*lists):
     """Number and place of each of these lists of the four tasks."""
     return [check_dependencies(four(), bytes(listed))[:2] for listed in lists]
+
+
+def on_bus(periods, budgets, charge=0, core_bytes=None):
+    """Number and place of a set-up of one core in the drive-bus profile, or None if it is
+    accepted."""
+    setup = setup_of(1, charge, periods, budgets, core_bytes or [1] * len(periods))
+    answer = read_bus(setup)
+    return tuple(answer) if isinstance(answer, Refusal) else None
 
 
 DIFFERING = 2, [10] * 6, [5, 4, 3, 3, 3, 2]
@@ -345,6 +355,30 @@ ROWS = {
                       and order_report(four()[:-1]) == (b"refused 4 0\n", b"")
                       and order_report(bytes([0, 17, 1, 0, 0])) == (b"refused 2 0\n", b"")
                       and order_report(b"") == (b"refused 1 0\n", b""),
+    # In the drive-bus profile.
+    "bus periods": [period for period in range(1, 10_001) if CLOCK % period == 0] == PERIODS,
+    "5 before 22": on_bus([3, 0], [1, 1]) == (5, 2) and on_bus([3, 10_001], [1, 1]) == (5, 2)
+                   and on_bus([3, 1], [1, 1]) == (22, 1),
+    "22 before 6": on_bus([10, 3], [11, 1]) == (22, 2) and on_bus([10, 5], [11, 1]) == (6, 1),
+    "22 before 14 and 15": on_bus([10, 9], [10, 1], 1) == (22, 2)
+                           and on_bus([10, 8], [10, 1], 1) == (14, 1)
+                           and on_bus([10, 9], [1, 1], 1, [0, 1]) == (22, 2)
+                           and on_bus([10, 8], [1, 1], 1, [0, 1]) == (15, 1),
+    "13 before 22": on_bus([3, 3], [1, 1], 10) == (13, 0) and on_bus([3, 3], [1, 1], 9) == (22, 1),
+    "22 where 7 is": on_bus([9999, 10_000], [1, 1]) == (22, 1)
+                     and on_bus([1000, 1001], [1, 1]) == (22, 2)
+                     and on_bus([10_000, 625, 16], [1, 1, 1]) is None,
+    "first of several": on_bus([10, 7, 3, 7], [1] * 4) == (22, 2)
+                        and on_bus([5] * 15 + [6], [1] * 16) == (22, 16),
+    "other lengths and forms": [tuple(read_bus(data)) for data in
+                                (b"", OLD_LISTING, NEW_LISTING[:-1], bytes([0, 17, 1, 0]))]
+                               == [(1, 0), (17, 0), (4, 0), (2, 0)],
+    "listing, bus": [plan_bus(NEW_LISTING, limit)[2:5] for limit in (6, 5, 0)]
+                    == [(SHORT, 7, 6), (SPENT, 10, 5), (SPENT, 17, 0)]
+                    and plan_bus(bytes(put(NEW_LISTING, 4, 9)), 6) == (22, 1, 0, 0, 0, [0] * 16),
+    "tied, bus": [bus_report(tied(charge)) == exact_report(tied(charge)) for charge in (0, 1, 5, 6)]
+                 == [True] * 4
+                 and bus_report(tied(1, 8, 30)) == (b"refused 22 2\n", b""),
 }
 
 if __name__ == "__main__":
