@@ -217,13 +217,16 @@ def fitting(named, rest):
         above = next((p for p in range(period + 1, LONGEST_PERIOD + 1) if fits(base, p)), None)
         near = [str(p) for p in (below, above) if p]
         return f"{' or '.join(near)} in place of {period} would do" if near else ""
-    if LONGEST_PERIOD % multiple(rest) == 0:
-        return "; ".join(f"near {period}: {nearest_divisors(period)}" for period in named)
-    return ""
+    return divisors_near(named) if LONGEST_PERIOD % multiple(rest) == 0 else ""
 
 
 def fits(base, period):
     return multiple([base, period]) <= LARGEST_MULTIPLE
+
+
+def divisors_near(periods):
+    """Of each period."""
+    return "; ".join(f"near {period}: {nearest_divisors(period)}" for period in periods)
 
 
 def nearest_divisors(period):
@@ -271,6 +274,15 @@ def circle(r):
     return f"{r.task(first)} feeds {', which feeds '.join(fed)}", "take one of these pairs out"
 
 
+# Number 22. The drive bus has the periods that divide 10,000.
+
+def bus_period(r):
+    unlisted = [k for k, period in enumerate(r.periods(), 1) if LONGEST_PERIOD % period != 0]
+    near = divisors_near(sorted({r.period(k) for k in unlisted}))
+    return (joined(f"{r.task(k)} has {r.period(k)}" for k in unlisted),
+            f"choose periods that divide 10,000 ({near})")
+
+
 # Numbers and lists in words.
 
 def size(number):
@@ -307,4 +319,5 @@ CAUSES = {
     19: ("no dependency list of 0 to 64 pairs", list_shape),
     20: ("a pair that does not fit", pair),
     21: ("tasks that feed each other in a circle", circle),
+    22: ("a period that the drive bus does not have", bus_period),
 }
