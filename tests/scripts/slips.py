@@ -17,7 +17,7 @@ def mixed_up(folder):
     unnamed = made(folder, "text.table", content(TEXT))
     wrong = made(folder, "slip.txt", b"cores 2\n10 x\n")
     table = made(folder, "table.txt", content(NEW))
-    for command in (["./run"], ["./run", "--quick"], ["./explain"]):
+    for command in (["./run"], ["./run", "--quick"], ["./run", "--bus"], ["./explain"]):
         refused = holds("refused 17 0") if command == ["./explain"] else b"refused 17 0\n"
         yield Case([*command, OLD], REFUSED, refused, ["old form", "./move tonew"])
         yield Case([*command, unnamed], REFUSED, refused, ["text", "./maketable"])
@@ -44,6 +44,9 @@ def refused_texts(folder):
         path, line = made(folder, f"refused{k}.txt", text), f"refused {number} {place}\n"
         said = [f"number {number} (", *words]
         yield Case(["./run", path], REFUSED, line.encode(), said)
+        # A hyperperiod is large only by a period that the drive bus does not have.
+        bus = (holds("refused 22 "), ["number 22 ("]) if number == 7 else (line.encode(), said)
+        yield Case(["./run", "--bus", path], REFUSED, *bus)
         shown = [line, "What to do: choose periods"] if number == 7 else [line]
         yield Case(["./explain", path], REFUSED, holds(*shown), said)
 
@@ -81,4 +84,5 @@ def refused_tables():
             (17, 0, b"\5" + whole[1:], ["first byte"]),
             (15, 5, whole[:-1] + b"\0", ["task 5", "no core"])):
         line = f"refused {number} {place}\n".encode()
-        yield Case(["./run", "-"], REFUSED, line, [f"number {number} (", *words], given=table)
+        for command in (["./run"], ["./run", "--bus"]):
+            yield Case([*command, "-"], REFUSED, line, [f"number {number} (", *words], given=table)

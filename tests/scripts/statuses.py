@@ -7,11 +7,15 @@ from case import (DONE, REFUSED, SCRIPTS, SHORT, SPENT, TROUBLE, Case, anything,
 WATCH = "examples/watch.table"
 PLANS = (("tight", DONE, SHORT), ("watch", SHORT, SHORT), ("spent", SPENT, SHORT),
          ("faster", DONE, DONE), ("refused", REFUSED, REFUSED))
+# With --bus: those that have the plan of ./run, and those that are refused.
+BUS_PLANS = (("bus", DONE), ("watch", SHORT), ("spent", SPENT))
+BUS_REFUSALS = (("display", b"refused 22 5\n", "167"), ("refused", b"refused 22 2\n", "1001"))
 NUMBER_7 = ["number 7", "1001"]
 
 
 def cases(_, folder):
     yield from planned()
+    yield from planned_for_bus()
     yield from other_answers()
     yield from usages()
     yield from unreadable(folder)
@@ -33,6 +37,16 @@ def planned():
     yield Case([*explain, "99", "examples/refused.table"], REFUSED, holds("refused 7 2"), NUMBER_7)
 
 
+def planned_for_bus():
+    answers = [(name, status, content(f"examples/{name}.plan"), ()) for name, status in BUS_PLANS]
+    answers += [(name, REFUSED, line, ["number 22", period])
+                for name, line, period in BUS_REFUSALS]
+    for name, status, out, said in answers:
+        table = f"examples/{name}.table"
+        yield Case(["./run", "--bus", table], status, out, said)
+        yield Case(["./run", "--bus", "-"], status, out, said, given=content(table))
+
+
 def other_answers():
     table, text, old = content(WATCH), content("examples/watch.txt"), "examples/old/watch.table"
     yield Case(["./explain", "--text", WATCH], DONE, anything)
@@ -50,7 +64,9 @@ def other_answers():
 
 def usages():
     wrong = {
-        "./run": ([], ["a", "b"], ["--fast", "a"], ["--quick"], ["--quick", "a", "b"], ["-x"]),
+        "./run": ([], ["a", "b"], ["--fast", "a"], ["--quick"], ["--quick", "a", "b"], ["-x"],
+                  ["--bus"], ["--bus", "a", "b"], ["--bus", "-x"], ["--bus", "--bus", WATCH],
+                  ["--quick", "--bus", WATCH], ["--bus", "--quick", WATCH], [WATCH, "--bus"]),
         "./move": ([], ["tonew"], ["back", "a"], ["tonew", "-", "-"], ["tonew", "a", "b", "c"],
                    ["tonew", "-x"], ["toold", "a", ""]),
         "./maketable": (["a", "b"], ["-x"]),
@@ -63,6 +79,7 @@ def usages():
             yield Case([script, *words], TROUBLE, said=[f"usage: {script}"])
     yield Case(["./run", "--steps", "9", WATCH], TROUBLE, said=["./explain --steps N"])
     yield Case(["./explain", "--steps", "4294967296", WATCH], TROUBLE, said=["4294967295"])
+    yield Case(["./run", "--help"], DONE, holds("[--quick | --bus] FILE\n", "\n--bus "))
     for script in SCRIPTS:
         for word in ("-h", "--help"):
             yield Case([script, word], DONE, starts_with(f"usage: {script}".encode()))
@@ -73,12 +90,12 @@ def starts_with(words):
 
 
 def unreadable(folder):
-    for command in (["./run"], ["./run", "--quick"], ["./move", "tonew"], ["./maketable"],
-                    ["./explain"], ["./explain", "--text"], ["./feeds"]):
+    for command in (["./run"], ["./run", "--quick"], ["./run", "--bus"], ["./move", "tonew"],
+                    ["./maketable"], ["./explain"], ["./explain", "--text"], ["./feeds"]):
         yield Case([*command, join(folder, "missing")], TROUBLE, said=["missing: No such file"])
         yield Case([*command, folder], TROUBLE, said=["Is a directory"])
     yield Case(["./feeds", join(folder, "missing.txt")], TROUBLE, said=["missing.txt: No such"])
-    for command in ("./run -", "./move tonew -", "./maketable", "./feeds -"):
+    for command in ("./run -", "./run --bus -", "./move tonew -", "./maketable", "./feeds -"):
         yield Case(f"{command} <&-", TROUBLE, said=["standard input"])
     yield Case("./run - < examples", TROUBLE, said=["standard input"])
 
@@ -86,6 +103,7 @@ def unreadable(folder):
 def unwritable():
     for command in ("./run examples/tight.table", "./run examples/watch.txt", "./run --help",
                     "./run --quick examples/tight.table", "./run examples/refused.table",
+                    "./run --bus examples/bus.table", "./run --bus examples/display.table",
                     "./move tonew examples/old/watch.table", "./maketable examples/watch.txt",
                     "./explain examples/watch.table", "./explain examples/refused.table",
                     "./explain --text examples/watch.table", "./feeds --help",

@@ -16,6 +16,7 @@ TOOLS = ("bash", "env", "dirname", "realpath", "head", "find", "tee", "sed", "mk
 TABLE = join(ROOT, "examples", "watch.table")
 PLAN = content("examples/watch.plan")
 OTHER = "toolchain.txt names"
+PLANNERS = ((["./run"], "millplan"), (["./run", "--bus"], "busplan"))
 
 
 def cases(_, folder):
@@ -24,16 +25,19 @@ def cases(_, folder):
     linked(tools)
     where = {"cwd": copy, **surroundings(PATH=tools)}
     check([Case([*command, TABLE], TROUBLE, b"", ["rt, the Rattle toolchain"], **where)
-           for command in (["./run"], ["./explain"], ["./move", "tonew"], ["./feeds"])])
+           for command in (["./run"], ["./run", "--bus"], ["./explain"], ["./move", "tonew"],
+                           ["./feeds"])])
     check([Case(["./run", "missing"], TROUBLE, b"", ["missing: No such file"], **where)])
     stand_in(tools, "another", "echo 'a proof fails'; exit 1")
     check([Case([script, TABLE], TROUBLE, b"", [OTHER, "another", "a proof fails"], 3, **where)
            for script in ("./run", "./feeds")])
-    stand_in(tools, "another", f"mkdir -p target/bin; cp '{ROOT}'/target/bin/millplan target/bin")
-    check([Case(["./run", TABLE], SHORT, PLAN, [OTHER, "proving and building"], 2, **where)])
-    check([Case(["./run", TABLE], SHORT, PLAN, [OTHER, "another"], **where)])
+    stand_in(tools, "another", f"mkdir -p target/bin; cp '{ROOT}'/target/bin/$2 target/bin")
+    for command, name in PLANNERS:
+        building = f"proving and building {name} "
+        check([Case([*command, TABLE], SHORT, PLAN, [OTHER, building], 2, **where)])
+        check([Case([*command, TABLE], SHORT, PLAN, [OTHER, "another"], **where)])
     stand_in(tools, content("toolchain.txt").decode().strip(), "exit 1")
-    check([Case(["./run", TABLE], SHORT, PLAN, **where)])
+    check([Case([*command, TABLE], SHORT, PLAN, **where) for command, _ in PLANNERS])
     # A program that says nothing, or fails.
     for other, said in (("true", "feeds did not answer"), ("false", "feeds ended with 1")):
         shutil.copy(shutil.which(other), join(copy, "target", "bin", "feeds"))
@@ -41,7 +45,7 @@ def cases(_, folder):
         check([Case(["./feeds", TABLE], TROUBLE, b"", [said], **where)])
     # What is built needs none.
     os.unlink(join(tools, "rt"))
-    check([Case(["./run", TABLE], SHORT, PLAN, **where)])
+    check([Case([*command, TABLE], SHORT, PLAN, **where) for command, _ in PLANNERS])
     # No plan without Python.
     os.unlink(join(tools, "python3"))
     yield Case(["./run", TABLE], TROUBLE, b"", ["python3"], **where)
