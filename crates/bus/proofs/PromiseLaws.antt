@@ -8,7 +8,7 @@ use Rattle.numbers.specs.Bounds.{Outside}
 use Rattle.numbers.proofs.BoundLaws.{not-outside}
 use Rattle.numbers.proofs.FirstLaws.{isFirst-map}
 use Rattle.refusal.specs.Causes.{numberOf, numberIn, placeIn}
-use Rattle.refusal.specs.Tests.{_then_, refuseAt, inOrder}
+use Rattle.refusal.specs.Tests.{_then_, inOrder}
 use Rattle.refusal.specs.Conditions.{Condition, None, First, Gives, Reports}
 use Rattle.refusal.specs.declared.Cause.{Cause}
 use Rattle.refusal.specs.declared.Cause.the-variants.{BusPeriod}
@@ -18,7 +18,6 @@ use Rattle.refusal.proofs.CauseLaws.{number-range}
 use Rattle.refusal.proofs.TestLaws.{outcome-cases, refuseAt-refused}
 use Rattle.refusal.proofs.ConditionLaws.{decides, none-first, none-append, first-behind, first-either, Numbers, first-number}
 use Rattle.fields.specs.Fields.{periodAt}
-use Rattle.fields.specs.Tests.{limitTests}
 use Rattle.fields.specs.Limits.{budgetOutside, costAbove, affinityUnfit, multipleAbove}
 use Rattle.fields.specs.declared.Fields.{Fields}
 use Rattle.profile.specs.Periods.{Listed}
@@ -27,7 +26,7 @@ use Rattle.profile.proofs.ListLaws.{listed-exactly, listed-multiple}
 use Rattle.taskset.specs.Promise.{Reads}
 use Rattle.taskset.specs.Table.{readingOf, Decided}
 use Rattle.taskset.specs.declared.Reading.{Reading}
-use Rattle.taskset.proofs.TableLaws.{table-accepts, read-outcome, read-fields, read-decided, read-reads, answers-alike}
+use Rattle.taskset.proofs.TableLaws.{table-accepts, read-outcome, read-fields, read-decided, read-reads}
 use Rattle.form.specs.Layout.{ReadsIn}
 use Rattle.newform.specs.Form.{newFields, NewForm}
 use Rattle.newform.specs.Limits.{new, newOutcome}
@@ -39,9 +38,9 @@ use Rattle.planner.specs.Promise.{Plans}
 use Rattle.planner.specs.declared.Allocation.{Allocation}
 use Rattle.planner.proofs.PlanLaws.{plan-alike}
 use Rattle.planner.proofs.PromiseLaws.{plan-outcome, plan-all}
-use Rattle.bus.specs.Limits.{ValidBus, earlier, busConditions, busTests, busOutcome, bus}
+use Rattle.bus.specs.Limits.{earlier, busConditions, busOutcome, bus}
 use Rattle.bus.specs.Promise.{OneOf, FirstOther, Profile, BusReads, BusPlans}
-use Rattle.bus.proofs.BusLaws.{bus-tested, bus-sound, bus-stored}
+use Rattle.bus.proofs.BusLaws.{bus-sound, bus-stored}
 
 -- ---- number 22 beside the general tests
 

@@ -1,6 +1,6 @@
 -- The output is that of the table for bus drives, and unless number 22 refuses it, that of the table by the general reader.
 use Prim.Native.Nat.{ℕ}
-use mathlib.Core.Path.{_≡_, _∙_, ap₂}
+use mathlib.Core.Path.{_≡_, _∙_}
 use mathlib.Core.List.{List}
 use mathlib.Core.Logic.{_≢_}
 use Rattle.refusal.specs.Causes.{numberIn}

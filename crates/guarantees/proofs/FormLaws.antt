@@ -1,7 +1,7 @@
 -- What W7 asks of the two stored forms holds.
-use Prim.Native.Nat.{ℕ, _+_, _*_, _≤_, _<_}
+use Prim.Native.Nat.{ℕ, _≤_}
 use mathlib.Core.Path.{_≡_, refl, sym, _∙_, ap, ap₂}
-use mathlib.Core.List.{List, [], _++_, append-nil}
+use mathlib.Core.List.{List, [], _++_}
 use lib.ListN.{length, take, drop}
 use Rattle.refusal.specs.declared.Cause.the-variants.{Buffer}
 use Rattle.refusal.specs.declared.Outcome.the-variants.{Accepted}

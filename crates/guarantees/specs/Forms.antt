@@ -11,7 +11,7 @@ use Rattle.taskset.specs.Reading.{acceptedReading}
 use Rattle.fields.specs.declared.Fields.{Fields}
 use Rattle.taskset.specs.Table.{Table, lent, readingOf, Decided}
 use Rattle.oldform.specs.Form.{oldBytes, OldForm}
-use Rattle.oldform.specs.Limits.{beside, alone}
+use Rattle.oldform.specs.Limits.{alone}
 use Rattle.newform.specs.Form.{newBytes, NewForm}
 use Rattle.newform.specs.Limits.{new}
 use Rattle.encoding.specs.Beside.{besideOf}
