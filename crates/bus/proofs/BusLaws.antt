@@ -9,9 +9,9 @@ use Rattle.refusal.specs.Conditions.{Condition, None, Tested}
 use Rattle.refusal.specs.declared.Outcome.{Outcome}
 use Rattle.refusal.specs.declared.Outcome.the-variants.{Accepted, Refused}
 use Rattle.refusal.specs.declared.Cause.{Cause}
-use Rattle.refusal.proofs.TestLaws.{then-then, then-first, then-refused, then-accepted}
+use Rattle.refusal.proofs.TestLaws.{then-then, then-again, each-accepts, inOrder-append, then-first, then-refused, then-accepted}
 use Rattle.refusal.proofs.ConditionLaws.{_and_, _also_, no-more, join, tested-as, unnamed, unnamed-all}
-use Rattle.fields.specs.Tests.{limitTests}
+use Rattle.fields.specs.Tests.{chargeTest, periodsTest, budgetsTest, costsTest, rowTest, affinityTest, hyperperiodTest, limitTests}
 use Rattle.fields.specs.Limits.{Sized, Within, chargeAbove, periodOutside, budgetOutside, costAbove, rowOther, affinityUnfit, multipleAbove}
 use Rattle.fields.specs.declared.Fields.{Fields}
 use Rattle.fields.proofs.LimitLaws.{charge-reported, periods-reported, within-kept, row-every}
@@ -29,16 +29,19 @@ use Rattle.newform.specs.Limits.{newShape}
 use Rattle.newform.proofs.NewLaws.{front-tested, new-sized, new-form, new-bounded}
 use Rattle.bus.specs.Limits.{ValidBus, earlier, busConditions, frontTests, busTests, busOutcome, bus}
 
--- all general limits behind numbers 13, 5 and 22: what was tested is accepted the second time
-again : (a b c : Outcome) (rest : List Outcome) → inOrder (a ∷ b ∷ c ∷ []) then inOrder (a ∷ b ∷ rest) ≡ inOrder (a ∷ b ∷ c ∷ rest)
-unfolding inOrder _then_
-again (Refused d) b c rest = refl
-again Accepted (Refused d) c rest = refl
-again Accepted Accepted (Refused d) rest = refl
-again Accepted Accepted Accepted rest = refl
+-- all general limits behind numbers 13, 5 and 22: where these accept, 13 and 5 do the second time
+charge-again : (f : Fields) → inOrder (frontTests f) ≡ Accepted → chargeTest f ≡ Accepted
+charge-again f e = search (each-accepts (frontTests f) e)
+
+periods-again : (f : Fields) → inOrder (frontTests f) ≡ Accepted → periodsTest f ≡ Accepted
+periods-again f e = search (each-accepts (frontTests f) e)
 
 pub all-behind : (shape : Outcome) (f : Fields) → (shape then inOrder (frontTests f)) then inOrder (limitTests f) ≡ shape then inOrder (busTests f)
-all-behind shape f = then-then shape _ _ ∙ ap (λ o. shape then o) (again _ _ _ _)
+unfolding inOrder
+all-behind shape f =
+    let rest : List Outcome = budgetsTest f ∷ costsTest f ∷ rowTest f ∷ affinityTest f ∷ hyperperiodTest f ∷ [] in
+    then-then shape _ _
+    ∙ ap (λ o. shape then o) (then-again _ _ _ (charge-again f) ∙ then-again _ _ _ (periods-again f) ∙ sym (inOrder-append (frontTests f) rest))
 
 -- numbers 13, 5 and 22
 abbrev frontLimits : Fields → List Condition

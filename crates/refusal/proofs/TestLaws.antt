@@ -84,6 +84,22 @@ unfolding _then_
 then-then Accepted b c = refl
 then-then (Refused d) b c = refl
 
+-- a test that accepts wherever the one before it does can be left out
+pub then-again : (a b c : Outcome) → (a ≡ Accepted → b ≡ Accepted) → a then (b then c) ≡ a then c
+unfolding _then_
+then-again Accepted b c h = then-first b c (h refl)
+then-again (Refused d) b c h = refl
+
+-- where a list of tests accepts, each of them does
+abbrev pub Accepting : List Outcome → Type 0
+Accepting [] = Unit {0}
+Accepting (t ∷ ts) = (t ≡ Accepted) × Accepting ts
+
+pub each-accepts : (ts : List Outcome) → inOrder ts ≡ Accepted → Accepting ts
+unfolding inOrder
+each-accepts [] e = tt
+each-accepts (t ∷ ts) e = let r = then-accepted t (inOrder ts) e in (r .0, each-accepts ts (r .1))
+
 -- The steps of a program that makes its tests and joins them.
 pub refuse-at-by : (c : ℕ → Cause) {k w : ℕ} {r : Outcome} → r ≡ refuseIf (not (eqb k 0)) (c k) → k ≡ w → r ≡ refuseAt w c
 unfolding refuseIf refuseAt

@@ -12,8 +12,17 @@ Inv-loop f k₀ k = Seeking (badPeriod f) (f .n) k
 abbrev μ-loop : tie.MeasureT-loop
 μ-loop f k₀ k = f .n - k
 
+returns : tie.Need-returns Inv-loop μ-loop
+returns c =
+    let at = c .before .before in
+    looked-found (at .before .before .loop .inv) (at .if1 .taken) (c .before .is-bad-period .ensures) (c .if2 .taken)
+
+loop-again : tie.Need-loop-again Inv-loop μ-loop
+loop-again c =
+    let at = c .before .before in
+    looked-on (at .before .before .loop .inv) (at .if1 .taken) (c .before .is-bad-period .ensures) (c .if2 .left)
+
 pub first-bad-period-spec : {M : Type 1} → statement M
 first-bad-period-spec =
     tie.close (tie.spec Inv-loop μ-loop (λ c. search (needs, seek-start)) (λ c κs. search needs) (λ c. search needs)
-    (λ c. search (needs, looked-found)) (λ c. search needs) (λ c. search needs) (λ c. search (needs, looked-on))
-    (λ c. search (needs, seek-none)))
+    returns (λ c. search needs) (λ c. search needs) loop-again (λ c. search (needs, seek-none)))
