@@ -30,6 +30,9 @@ pub fn number(cause: Cause) -> u32
         Cause::Pair(_) => 20,
         Cause::Circle(_) => 21,
         Cause::BusPeriod(_) => 22,
+        Cause::Answer(_) => 23,
+        Cause::LogRoom => 24,
+        Cause::Record(_) => 25,
     }
 }
 
@@ -60,5 +63,8 @@ pub fn place(cause: Cause) -> usize
         Cause::Pair(pair) => pair,
         Cause::Circle(task) => task,
         Cause::BusPeriod(task) => task,
+        Cause::Answer(answer) => answer,
+        Cause::LogRoom => 0,
+        Cause::Record(record) => record,
     }
 }

@@ -5,12 +5,12 @@ use native.Mathlib.Omega.{arith}
 use Rattle.refusal.specs.Causes.{numberOf, placeOf}
 use Rattle.refusal.specs.CauseTable.{causeTable, Agrees}
 use Rattle.refusal.specs.declared.Cause.{Cause}
-use Rattle.refusal.specs.declared.Cause.the-variants.{TooShort, TaskCount, CoreCount, Length, Period, Budget, Hyperperiod, Buffer, Placement, CoreNumber, Overload, Slot, Charge, Cost, Affinity, NotPermitted, FirstByte, Filling, PairList, Pair, Circle, BusPeriod}
+use Rattle.refusal.specs.declared.Cause.the-variants.{TooShort, TaskCount, CoreCount, Length, Period, Budget, Hyperperiod, Buffer, Placement, CoreNumber, Overload, Slot, Charge, Cost, Affinity, NotPermitted, FirstByte, Filling, PairList, Pair, Circle, BusPeriod, Answer, LogRoom, Record}
 
 pub table-agrees : (p : ℕ) → Agrees (causeTable p)
-table-agrees p = (refl, refl, (refl, refl, (refl, refl, (refl, refl, (refl, refl, (refl, refl, (refl, refl, (refl, refl, (refl, refl, (refl, refl, (refl, refl, (refl, refl, (refl, refl, (refl, refl, (refl, refl, (refl, refl, (refl, refl, (refl, refl, (refl, refl, (refl, refl, (refl, refl, (refl, refl, tt))))))))))))))))))))))
+table-agrees p = (refl, refl, (refl, refl, (refl, refl, (refl, refl, (refl, refl, (refl, refl, (refl, refl, (refl, refl, (refl, refl, (refl, refl, (refl, refl, (refl, refl, (refl, refl, (refl, refl, (refl, refl, (refl, refl, (refl, refl, (refl, refl, (refl, refl, (refl, refl, (refl, refl, (refl, refl, (refl, refl, (refl, refl, (refl, refl, tt)))))))))))))))))))))))))
 
-pub number-range : (c : Cause) → (1 ≤ numberOf c) × (numberOf c ≤ 22)
+pub number-range : (c : Cause) → (1 ≤ numberOf c) × (numberOf c ≤ 25)
 number-range TooShort = (omega arith, omega arith)
 number-range TaskCount = (omega arith, omega arith)
 number-range CoreCount = (omega arith, omega arith)
@@ -33,6 +33,9 @@ number-range PairList = (omega arith, omega arith)
 number-range (Pair pair) = (omega arith, omega arith)
 number-range (Circle task) = (omega arith, omega arith)
 number-range (BusPeriod task) = (omega arith, omega arith)
+number-range (Answer answer) = (omega arith, omega arith)
+number-range LogRoom = (omega arith, omega arith)
+number-range (Record rec) = (omega arith, omega arith)
 
 -- number and place go by the case of the cause
 pub number-of : {c d : Cause} {x : ℕ} → c ≡ d → x ≡ numberOf d → x ≡ numberOf c

@@ -4,13 +4,13 @@ use mathlib.Core.Path.{_≡_}
 use mathlib.Core.List.{List, [], _∷_}
 use Rattle.refusal.specs.Causes.{numberOf, placeOf}
 use Rattle.refusal.specs.declared.Cause.{Cause}
-use Rattle.refusal.specs.declared.Cause.the-variants.{TooShort, TaskCount, CoreCount, Length, Period, Budget, Hyperperiod, Buffer, Placement, CoreNumber, Overload, Slot, Charge, Cost, Affinity, NotPermitted, FirstByte, Filling, PairList, Pair, Circle, BusPeriod}
+use Rattle.refusal.specs.declared.Cause.the-variants.{TooShort, TaskCount, CoreCount, Length, Period, Budget, Hyperperiod, Buffer, Placement, CoreNumber, Overload, Slot, Charge, Cost, Affinity, NotPermitted, FirstByte, Filling, PairList, Pair, Circle, BusPeriod, Answer, LogRoom, Record}
 
 -- A row of the table: a cause, its number, its place.
 pub data CauseRow : Type 0 where
   cause : Cause → ℕ → ℕ → CauseRow
 
--- the table, where p is the first such task, slot or pair; 0 where the paper names no place
+-- the table, where p is the first such task, slot, pair, answer or record; 0 where the paper names no place
 abbrev pub causeTable : ℕ → List CauseRow
 causeTable p =
     cause TooShort 1 0
@@ -35,6 +35,9 @@ causeTable p =
     ∷ cause (Pair p) 20 p
     ∷ cause (Circle p) 21 p
     ∷ cause (BusPeriod p) 22 p
+    ∷ cause (Answer p) 23 p
+    ∷ cause LogRoom 24 0
+    ∷ cause (Record p) 25 p
     ∷ []
 
 -- Number and place of each row are those that the definitions give its cause.

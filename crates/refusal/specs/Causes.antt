@@ -1,7 +1,7 @@
 -- The paper's number and place of each cause of refusal, and of an outcome.
 use Prim.Native.Nat.{ℕ}
 use Rattle.refusal.specs.declared.Cause.{Cause}
-use Rattle.refusal.specs.declared.Cause.the-variants.{TooShort, TaskCount, CoreCount, Length, Period, Budget, Hyperperiod, Buffer, Placement, CoreNumber, Overload, Slot, Charge, Cost, Affinity, NotPermitted, FirstByte, Filling, PairList, Pair, Circle, BusPeriod}
+use Rattle.refusal.specs.declared.Cause.the-variants.{TooShort, TaskCount, CoreCount, Length, Period, Budget, Hyperperiod, Buffer, Placement, CoreNumber, Overload, Slot, Charge, Cost, Affinity, NotPermitted, FirstByte, Filling, PairList, Pair, Circle, BusPeriod, Answer, LogRoom, Record}
 use Rattle.refusal.specs.declared.Outcome.{Outcome}
 use Rattle.refusal.specs.declared.Outcome.the-variants.{Accepted, Refused}
 
@@ -29,8 +29,11 @@ numberOf PairList = 19
 numberOf (Pair pair) = 20
 numberOf (Circle task) = 21
 numberOf (BusPeriod task) = 22
+numberOf (Answer answer) = 23
+numberOf LogRoom = 24
+numberOf (Record rec) = 25
 
--- its place, the first such task, slot or pair counted from 1; 0 where the paper names none
+-- its place, the first such task, slot, pair, answer or record counted from 1; 0 where the paper names none
 abbrev pub placeOf : Cause → ℕ
 placeOf TooShort = 0
 placeOf TaskCount = 0
@@ -54,6 +57,9 @@ placeOf PairList = 0
 placeOf (Pair pair) = pair
 placeOf (Circle task) = task
 placeOf (BusPeriod task) = task
+placeOf (Answer answer) = answer
+placeOf LogRoom = 0
+placeOf (Record rec) = rec
 
 -- number and place of an outcome: 0 and 0 where the call is accepted
 abbrev pub numberIn : Outcome → ℕ

@@ -20,7 +20,7 @@ abbrev pub numbered : Condition → ℕ
 numbered (only number P) = number
 numbered (at number P n) = number
 
--- The condition holds, at this place: 0 where the paper names none, or else the first such task, slot or pair, counted from 1.
+-- The condition holds, at this place: 0 where the paper names none, or else the first such task, slot, pair, answer or record, counted from 1.
 abbrev pub HoldsAt : Condition → ℕ → Type 0
 HoldsAt (only number P) place = P × (place ≡ 0)
 HoldsAt (at number P n) place = FirstAt P n place

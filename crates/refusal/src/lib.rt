@@ -2,7 +2,7 @@
 ghost use mathlib.Core.Path.{_≡_};
 ghost use Rattle.refusal.specs.Tests.{_then_, refuseIf, roomTest};
 
-// The paper's causes, with the task, slot or pair where it names one, counted from 1.
+// The paper's causes, with the task, slot, pair, answer or record where it names one, counted from 1.
 pub enum Cause {
     TooShort,
     TaskCount,
@@ -26,6 +26,9 @@ pub enum Cause {
     Pair(usize),
     Circle(usize),
     BusPeriod(usize),
+    Answer(usize),
+    LogRoom,
+    Record(usize),
 }
 
 // What a test, or several made in order, say of a call.
