@@ -14,9 +14,8 @@ use Rattle.refusal.specs.declared.Cause.{Cause}
 use Rattle.refusal.specs.declared.Cause.the-variants.{BusPeriod}
 use Rattle.refusal.specs.declared.Outcome.{Outcome}
 use Rattle.refusal.specs.declared.Outcome.the-variants.{Accepted, Refused}
-use Rattle.refusal.proofs.CauseLaws.{number-range}
 use Rattle.refusal.proofs.TestLaws.{outcome-cases, refuseAt-refused}
-use Rattle.refusal.proofs.ConditionLaws.{decides, none-first, none-append, first-behind, first-either, Numbers, first-number}
+use Rattle.refusal.proofs.ConditionLaws.{decides, no-number, none-first, none-append, first-behind, first-either, Numbers, first-number}
 use Rattle.fields.specs.Fields.{periodAt}
 use Rattle.fields.specs.Limits.{budgetOutside, costAbove, affinityUnfit, multipleAbove}
 use Rattle.fields.specs.declared.Fields.{Fields}
@@ -191,9 +190,6 @@ pub reads-alike : (s : List ℕ) → numberIn (bus s .outcome) ≢ 22 → readin
 unfolding readingOf bus new
 reads-alike s n = rw (unless s n) refl
 
-is-accepted : (o : Outcome) → numberIn o ≡ 0 → o ≡ Accepted
-is-accepted o z = ⊎-elim (λ e. e) (λ r. absurd (omega (arith, number-range (r .0) .0, sym (ap numberIn (r .1)) ∙ z))) (outcome-cases o)
-
 module _ (s : List ℕ) {r : Reading} (e : r ≡ readingOf (bus s)) where
   said : r .outcome ≡ bus s .outcome
   said = read-outcome (bus s) e
@@ -207,7 +203,7 @@ module _ (s : List ℕ) {r : Reading} (e : r ≡ readingOf (bus s)) where
     outcome = profile-kept s said;
     agrees = λ n. e ∙ reads-alike s (λ z. n (ap numberIn said ∙ z));
     divides = λ z.
-        let a = is-accepted (r .outcome) z in
+        let a = no-number (r .outcome) z in
         listed-multiple (periodAt (r .tasks .fields)) (r .tasks .fields .n) (r .tasks .hyperperiod) (listed-periods a) (read-reads (bus s) e (bus-sound s) .exact a .hyperperiod);
   }
 
@@ -223,7 +219,7 @@ module _ (s : List ℕ) (limit : ℕ) {r : Allocation} (e : r ≡ planOf (bus s)
   unfolding bus new
   reads-old z =
       reads-alike s (λ q. omega (arith, z, q))
-      ∙ sym (reads-beside s (table-accepts (bus-sound s) .0 (is-accepted (bus s .outcome) z) .general))
+      ∙ sym (reads-beside s (table-accepts (bus-sound s) .0 (no-number (bus s .outcome) z) .general))
 
   pub bus-plans : BusPlans s limit r
   bus-plans = record {

@@ -7,7 +7,7 @@ use lib.Seq.{getD-take}
 use Rattle.numbers.specs.Rows.{entry}
 use Rattle.numbers.proofs.RowLaws.{length-tab}
 use Rattle.refusal.specs.declared.Outcome.the-variants.{Accepted}
-use Rattle.refusal.proofs.ConditionLaws.{gives-accepted}
+use Rattle.refusal.proofs.ConditionLaws.{no-number}
 use Rattle.taskset.specs.Demands.{demandOf}
 use Rattle.taskset.specs.Table.{Table, Sound}
 use Rattle.planning.specs.Problem.{tableProblem}
@@ -45,7 +45,7 @@ module _ {t : Table} (s : Sound t) (plan : Plan) (v : t .Valid) where
   }
 
   starts-each : (core : ℕ) → 1 ≤ core → core ≤ t .fields .m → startOf t (placementOf t plan) core .outcome ≡ Accepted
-  starts-each core least most = gives-accepted _ (demand-three s .accepted (placementOf t plan) core v valid-placement least most .1 (promise .loads core least most))
+  starts-each core least most = no-number _ (demand-three s .accepted (placementOf t plan) core v valid-placement least most .1 (promise .loads core least most) .0)
 
   served-each : (ticks : List (List ℕ)) (k p : ℕ) → k < t .fields .n → 1 ≤ entry (placementOf t plan) k
       → periodStart (tasksOf t plan) k (p + 1) ≤ length ticks → receivedIn (tasksOf t plan) (answersOf t plan k ticks) k p ≡ owedIn (tasksOf t plan) ticks k p

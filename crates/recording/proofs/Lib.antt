@@ -1,3 +1,4 @@
 pub mod PassLaws
 pub mod AnswerLaws
 pub mod WriteLaws
+pub mod PromiseLaws

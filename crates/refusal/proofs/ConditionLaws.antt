@@ -131,9 +131,14 @@ _and_ {c} {cs = cs} a b = then-reports (c ∷ []) cs a (λ _. b)
 
 -- ---- what reports its conditions decides, where none holds exactly if the call is valid
 
-pub gives-accepted : (o : Outcome) → Gives o 0 0 → o ≡ Accepted
-gives-accepted Accepted g = refl
-gives-accepted (Refused c) g = absurd (omega (arith, number-range c .0, g .0))
+-- an outcome without a number is no refusal, and one with a number is
+pub no-number : (o : Outcome) → numberIn o ≡ 0 → o ≡ Accepted
+no-number Accepted z = refl
+no-number (Refused c) z = absurd (omega (arith, number-range c .0, z))
+
+pub some-number : (o : Outcome) → (numberIn o ≡ 0 → ⊥) → (c : Cause) × (o ≡ Refused c)
+some-number Accepted n = absurd (n refl)
+some-number (Refused c) n = (c, refl)
 
 pub gives-refused : (o : Outcome) (number place : ℕ) → 1 ≤ number → Gives o number place
     → (cause : Cause) × (o ≡ Refused cause) × (numberOf cause ≡ number) × (placeOf cause ≡ place)
@@ -165,7 +170,7 @@ module _ {cs : List Condition} {o : Outcome} (r : Reports cs o) where
 pub decides : {Valid : Type 0} {cs : List Condition} {o : Outcome} → Tested Valid cs o → Decides Valid cs o
 decides {o = o} t = record {
   accepted = (
-    λ g. t .valid .0 (t .reports .accepted (gives-accepted o g)),
+    λ g. t .valid .0 (t .reports .accepted (no-number o (g .0))),
     λ v. accepted-gives (none-accepted (t .reports) (t .valid .1 v)),
   );
   refused = λ k p h. (given-first (t .reports) h, first-given (t .reports));
@@ -203,7 +208,7 @@ unnamed-all cs (b ∷ bs) ds f t = unnamed-all cs bs ds (λ n. f n .1) (unnamed 
 
 -- what a decision says of an acceptance
 pub accepts : {Valid : Type 0} {cs : List Condition} {o : Outcome} → Decides Valid cs o → (o ≡ Accepted) ↔ Valid
-accepts {o = o} d = (λ e. d .accepted .0 (accepted-gives e), λ v. gives-accepted o (d .accepted .1 v))
+accepts {o = o} d = (λ e. d .accepted .0 (accepted-gives e), λ v. no-number o (d .accepted .1 v .0))
 
 -- outcomes of the same number and place decide the same
 pub decides-same : {Valid : Type 0} {cs : List Condition} (o p : Outcome) → numberIn o ≡ numberIn p → placeIn o ≡ placeIn p → Decides Valid cs p → Decides Valid cs o

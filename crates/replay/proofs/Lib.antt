@@ -1,2 +1,3 @@
 pub mod AuditLaws
 pub mod PaintLaws
+pub mod PromiseLaws

@@ -1,12 +1,13 @@
 -- Which records are fit: the causes one by one, and the runs of answers up to 16.
 use mathlib.Core.Path.{_≡_, refl, sym, _∙_, ap}
-use mathlib.Core.Bool.{Bool, true, false, not, _||_, false≢true}
+use mathlib.Core.Bool.{Bool, true, false, not, _||_}
 use mathlib.Core.List.{List, [], _∷_}
 use Prim.Native.Nat.{ℕ, suc, _+_, _-_, _<_, _≤_}
 use native.Mathlib.Omega.{arith}
 use borrow.Author.Tests.{not-false, ltb-true, ltb-false, eqb-true, eqb-false, lt-ltb, le-ltb, eq-eqb, ne-eqb}
 use lib.Dec.{eqb, ltb}
 use lib.ListN.{length, drop}
+use Rattle.numbers.proofs.BoolLaws.{or-false-left, or-false-right}
 use Rattle.runs.specs.declared.Run.{Run}
 use Rattle.runs.specs.Runs.{run, joined, runsFrom, runs, lead}
 use Rattle.runs.specs.Fit.{unfit, unfitFrom, firstUnfit}
@@ -38,10 +39,6 @@ module _ (before sum : ℕ) (r : Run) where
   pub fit-is : r .task ≤ 16 → (r .task ≡ before → ⊥) → (r .length ≡ 0 → ⊥) → r .first ≡ sum → sum + r .length ≤ 60000 → unfit before sum r ≡ false
   fit-is a b c d e = rw (le-ltb 16 (r .task) a, ne-eqb (r .task) before b, ne-eqb (r .length) 0 c, eq-eqb (r .first) sum d, le-ltb 60000 (sum + r .length) e)
 
-or-false : (a b : Bool) → (a || b) ≡ false → (a ≡ false) × (b ≡ false)
-or-false true b h = absurd (false≢true (sym h))
-or-false false b h = (refl, h)
-
 -- A fit record, by its numbers.
 pub record FitAfter (before sum : ℕ) (r : Run) : Type 0 where
   pub low : r .task ≤ 16
@@ -52,16 +49,15 @@ pub record FitAfter (before sum : ℕ) (r : Run) : Type 0 where
 
 pub fit-of : (before sum : ℕ) (r : Run) → unfit before sum r ≡ false → FitAfter before sum r
 fit-of before sum r h =
-    let h1 = or-false (ltb 16 (r .task)) (eqb (r .task) before || (eqb (r .length) 0 || (not (eqb (r .first) sum) || ltb 60000 (sum + r .length)))) h in
-    let h2 = or-false (eqb (r .task) before) (eqb (r .length) 0 || (not (eqb (r .first) sum) || ltb 60000 (sum + r .length))) (h1 .1) in
-    let h3 = or-false (eqb (r .length) 0) (not (eqb (r .first) sum) || ltb 60000 (sum + r .length)) (h2 .1) in
-    let h4 = or-false (not (eqb (r .first) sum)) (ltb 60000 (sum + r .length)) (h3 .1) in
+    let h1 = or-false-right (ltb 16 (r .task)) (eqb (r .task) before || (eqb (r .length) 0 || (not (eqb (r .first) sum) || ltb 60000 (sum + r .length)))) h in
+    let h2 = or-false-right (eqb (r .task) before) (eqb (r .length) 0 || (not (eqb (r .first) sum) || ltb 60000 (sum + r .length))) h1 in
+    let h3 = or-false-right (eqb (r .length) 0) (not (eqb (r .first) sum) || ltb 60000 (sum + r .length)) h2 in
     record {
-      low = ltb-false 16 (r .task) (h1 .0);
-      other = eqb-false (r .task) before (h2 .0);
-      some = eqb-false (r .length) 0 (h3 .0);
-      starts = eqb-true (r .first) sum (not-false (eqb (r .first) sum) (h4 .0));
-      short = ltb-false 60000 (sum + r .length) (h4 .1);
+      low = ltb-false 16 (r .task) (or-false-left (ltb 16 (r .task)) _ h);
+      other = eqb-false (r .task) before (or-false-left (eqb (r .task) before) _ h1);
+      some = eqb-false (r .length) 0 (or-false-left (eqb (r .length) 0) _ h2);
+      starts = eqb-true (r .first) sum (not-false (eqb (r .first) sum) (or-false-left (not (eqb (r .first) sum)) _ h3));
+      short = ltb-false 60000 (sum + r .length) (or-false-right (not (eqb (r .first) sum)) (ltb 60000 (sum + r .length)) h3);
     }
 
 -- ---- one record after another

@@ -1,2 +1,5 @@
 pub mod RunLaws
 pub mod FitLaws
+pub mod LogLaws
+pub mod UnfitLaws
+pub mod LentLaws

@@ -1,3 +1,4 @@
 pub mod Runs
 pub mod Fit
 pub mod Lent
+pub mod Log
