@@ -19,7 +19,7 @@ pub struct Reply {
 }
 
 // The answer of a call on a log, in numbers.
-fn reply(answer: Logged) -> Reply
+fn in_numbers(answer: Logged) -> Reply
     requires { ⌜ (placeIn (answer .outcome) ≤ 60001) × (answer .count ≤ 60000) ⌝ }
     ensures { λ r. ⌜ r ≡ replyOf answer ⌝ }
 {
@@ -45,7 +45,7 @@ pub extern "C" fn millplan_log_write(answers: &[u8], runs: &mut [Run]) -> Reply
     ensures runs { λ r. ⌜ now (runs .exit) ≡ logAfter (now (answers .entry)) (now (runs .entry)) ⌝ }
 {
     let answer = runlog::write_log(answers, runs);
-    reply(answer)
+    in_numbers(answer)
 }
 
 // Fills `answers` from the records.
@@ -55,5 +55,5 @@ pub extern "C" fn millplan_log_expand(runs: &[Run], answers: &mut [u8]) -> Reply
     ensures answers { λ r. ⌜ now (answers .exit) ≡ rowAfter (now (runs .entry)) (now (answers .entry)) ⌝ }
 {
     let answer = runlog::expand_log(runs, answers);
-    reply(answer)
+    in_numbers(answer)
 }
