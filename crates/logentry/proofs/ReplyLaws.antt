@@ -23,12 +23,14 @@ use Rattle.runs.specs.Runs.{runs}
 use Rattle.runs.specs.Fit.{unfit}
 use Rattle.runs.specs.Lent.{loggedBy}
 use Rattle.runs.proofs.RunLaws.{runs-le}
+use Rattle.runs.proofs.LentLaws.{logged-outcome}
 use Rattle.recording.specs.Tests.{aboveAt, answersTest, writeOutcome, writeAnswer}
 use Rattle.recording.proofs.WriteLaws.{write-accepted, count-accepted, count-refused}
 use Rattle.replay.specs.declared.Audit.{Audit}
 use Rattle.replay.specs.Tests.{expandAnswer, audited, auditOf, auditStart, auditAnswer}
 use Rattle.replay.proofs.AuditLaws.{InRange, range-all, audited-unfit, audited-fit, audit-answers}
-use Rattle.logentry.specs.Reply.{replyOf}
+use Rattle.refusal.specs.Conditions.{Condition, Decides}
+use Rattle.logentry.specs.Reply.{replyOf, Replies}
 use Rattle.logentry.specs.declared.Reply.{Reply}
 
 -- ---- by the outcome
@@ -40,6 +42,27 @@ reply-accepted {a} e = λ i. record { number = ap numberIn (sym e) i; place = ap
 pub reply-refused : {a : Logged} {c : Cause} {n p : ℕ} → a .outcome ≡ Refused c → n ≡ numberOf c → p ≡ placeOf c → _≡_ {A = Reply} (record { number = n; place = p; count = a .count }) (replyOf a)
 unfolding replyOf
 reply-refused {a} e f g = λ i. record { number = (f ∙ ap numberIn (sym e)) i; place = (g ∙ ap placeIn (sym e)) i; count = a .count }
+
+-- what an answer decides and promises, its reply does
+module _ (a : Logged) {r : Reply} (e : r ≡ replyOf a) where
+  same-number : r .number ≡ numberIn (a .outcome)
+  unfolding replyOf
+  same-number = ap (λ (x : Reply). x .number) e
+
+  same-place : r .place ≡ placeIn (a .outcome)
+  unfolding replyOf
+  same-place = ap (λ (x : Reply). x .place) e
+
+  same-count : r .count ≡ a .count
+  unfolding replyOf
+  same-count = ap (λ (x : Reply). x .count) e
+
+  pub reply-decides : {Valid : Type 0} {cs : List Condition} → Decides Valid cs (a .outcome) → Replies Valid cs r
+  reply-decides d = record { accepted = rw (same-number, same-place) (d .accepted); refused = λ n p h. rw (same-number, same-place) (d .refused n p h) }
+
+  -- whatever is said of number and count
+  pub reply-says : (P : ℕ → ℕ → Type 0) → P (numberIn (a .outcome)) (a .count) → P (r .number) (r .count)
+  reply-says P x = rw (same-number, same-count) x
 
 -- ---- what `in_numbers` asks
 
@@ -68,12 +91,7 @@ unfolding _then_
 low-then Accepted p h g = g refl
 low-then (Refused c) p h g = h
 
--- an answer's outcome is that of its tests, and its count at most that of an acceptance
-logged-outcome : (o : Outcome) (n : ℕ) → loggedBy o n .outcome ≡ o
-unfolding loggedBy byOutcome
-logged-outcome Accepted n = refl
-logged-outcome (Refused c) n = refl
-
+-- a count is at most that of an acceptance
 logged-count : (o : Outcome) (n : ℕ) → loggedBy o n .count ≤ n
 unfolding loggedBy byOutcome
 logged-count Accepted n = omega arith

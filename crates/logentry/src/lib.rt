@@ -4,8 +4,12 @@ ghost use Prim.Native.Nat.{_≤_};
 ghost use lib.ListN.{length};
 ghost use Rattle.refusal.specs.Causes.{numberIn, placeIn};
 ghost use Rattle.recording.specs.Tests.{writeAnswer, logAfter};
+ghost use Rattle.recording.specs.Limits.{Writable, writeConditions};
+ghost use Rattle.recording.specs.Promise.{Writes};
 ghost use Rattle.replay.specs.Tests.{expandAnswer, rowAfter};
-ghost use Rattle.logentry.specs.Reply.{replyOf};
+ghost use Rattle.replay.specs.Limits.{Expandable, expandConditions};
+ghost use Rattle.replay.specs.Promise.{Expands};
+ghost use Rattle.logentry.specs.Reply.{replyOf, Replies};
 use refusal::Outcome;
 use runs::Logged;
 use runs::Run;
@@ -43,6 +47,8 @@ fn in_numbers(answer: Logged) -> Reply
 pub extern "C" fn millplan_log_write(answers: &[u8], runs: &mut [Run]) -> Reply
     ensures reply { λ r. ⌜ r ≡ replyOf (writeAnswer (now (answers .entry)) (length (now (runs .entry)))) ⌝ }
     ensures runs { λ r. ⌜ now (runs .exit) ≡ logAfter (now (answers .entry)) (now (runs .entry)) ⌝ }
+    ensures decides { λ r. ⌜ Replies (Writable (now (answers .entry)) (length (now (runs .entry)))) (writeConditions (now (answers .entry)) (length (now (runs .entry)))) r ⌝ }
+    ensures writes { λ r. ⌜ Writes (now (answers .entry)) (now (runs .entry)) (r .number) (r .count) (now (runs .exit)) ⌝ }
 {
     let answer = runlog::write_log(answers, runs);
     in_numbers(answer)
@@ -53,6 +59,8 @@ pub extern "C" fn millplan_log_write(answers: &[u8], runs: &mut [Run]) -> Reply
 pub extern "C" fn millplan_log_expand(runs: &[Run], answers: &mut [u8]) -> Reply
     ensures reply { λ r. ⌜ r ≡ replyOf (expandAnswer (now (runs .entry)) (length (now (answers .entry)))) ⌝ }
     ensures answers { λ r. ⌜ now (answers .exit) ≡ rowAfter (now (runs .entry)) (now (answers .entry)) ⌝ }
+    ensures decides { λ r. ⌜ Replies (Expandable (now (runs .entry)) (length (now (answers .entry)))) (expandConditions (now (runs .entry)) (length (now (answers .entry)))) r ⌝ }
+    ensures expands { λ r. ⌜ Expands (now (runs .entry)) (now (answers .entry)) (r .number) (r .count) (now (answers .exit)) ⌝ }
 {
     let answer = runlog::expand_log(runs, answers);
     in_numbers(answer)

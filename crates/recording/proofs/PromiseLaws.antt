@@ -108,13 +108,13 @@ module _ (xs : List ℕ) (before : List Run) {answer : Logged} {after : List Run
   accepted : numberIn (answer .outcome) ≡ 0 → writeOutcome xs (length before) ≡ Accepted
   accepted z = sym (said xs (length before) ea) ∙ no-number (answer .outcome) z
 
-  pub writes : Writes xs before answer after
+  pub writes : Writes xs before (numberIn (answer .outcome)) (answer .count) after
   writes = record {
     refused = λ n.
         let r = some-number (answer .outcome) n in
         let e = sym (said xs (length before) ea) ∙ r .1 in
         (none (r .0) e, kept (r .0) e);
-    count = λ z. needs (accepted z) ∙ runs-needed xs;
+    counts = λ z. needs (accepted z) ∙ runs-needed xs;
     log = λ z. log-there (accepted z);
     beyond = λ (k : ℕ) (h : answer .count ≤ k).
         ⊎-elim (λ (e : writeOutcome xs (length before) ≡ Accepted). beyond-there e k h)
@@ -125,8 +125,3 @@ module _ (xs : List ℕ) (before : List Run) {answer : Logged} {after : List Run
         (λ (e : (c : Cause) × (writeOutcome xs (length before) ≡ Refused c)). ap (λ (l : List Run). length l) (kept (e .0) (e .1)))
         (outcome-cases (writeOutcome xs (length before)));
   }
-
-  -- all clauses of a call that writes
-  pub wrote : (answer ≡ writeAnswer xs (length before)) × ((after ≡ logAfter xs before)
-      × (Decides (Writable xs (length before)) (writeConditions xs (length before)) (answer .outcome) × Writes xs before answer after))
-  wrote = (ea, (eo, (write-decides xs (length before) ea, writes)))

@@ -101,21 +101,16 @@ module _ (rs : List Run) (before : List ℕ) {answer : Logged} {after : List ℕ
   accepted : numberIn (answer .outcome) ≡ 0 → expandOutcome rs (length before) ≡ Accepted
   accepted z = sym (said rs (length before) ea) ∙ no-number (answer .outcome) z
 
-  pub expands : Expands rs before answer after
+  pub expands : Expands rs before (numberIn (answer .outcome)) (answer .count) after
   expands = record {
     refused = λ n.
         let r = some-number (answer .outcome) n in
         let e = sym (said rs (length before) ea) ∙ r .1 in
         (none (r .0) e, kept (r .0) e);
-    count = λ z. all-filled (accepted z);
+    counts = λ z. all-filled (accepted z);
     log = λ z. log-there (accepted z);
     long =
         ⊎-elim (λ (e : expandOutcome rs (length before) ≡ Accepted). long-there e)
         (λ (e : (c : Cause) × (expandOutcome rs (length before) ≡ Refused c)). ap (λ (l : List ℕ). length l) (kept (e .0) (e .1)))
         (outcome-cases (expandOutcome rs (length before)));
   }
-
-  -- all clauses of a call that expands
-  pub expanded : (answer ≡ expandAnswer rs (length before)) × ((after ≡ rowAfter rs before)
-      × (Decides (Expandable rs (length before)) (expandConditions rs (length before)) (answer .outcome) × Expands rs before answer after))
-  expanded = (ea, (eo, (expand-decides rs (length before) ea, expands)))

@@ -2,8 +2,14 @@
 ghost use mathlib.Core.Path.{_≡_};
 ghost use Prim.Native.Nat.{_≤_};
 ghost use lib.ListN.{length, take};
+ghost use Rattle.refusal.specs.Causes.{numberIn};
+ghost use Rattle.refusal.specs.Conditions.{Decides};
 ghost use Rattle.recording.specs.Tests.{writeAnswer, logAfter};
+ghost use Rattle.recording.specs.Limits.{Writable, writeConditions};
+ghost use Rattle.recording.specs.Promise.{Writes};
 ghost use Rattle.replay.specs.Tests.{auditStart, auditOf, expandAnswer, rowAfter, paintedAll};
+ghost use Rattle.replay.specs.Limits.{Expandable, expandConditions};
+ghost use Rattle.replay.specs.Promise.{Expands};
 use replay::Audit;
 use runs::Logged;
 use runs::Run;
@@ -12,6 +18,8 @@ use runs::Run;
 pub fn write_log(answers: &[u8], records: &mut [Run]) -> Logged
     ensures answer { λ r. ⌜ r ≡ writeAnswer (now (answers .entry)) (length (now (records .entry))) ⌝ }
     ensures records { λ r. ⌜ now (records .exit) ≡ logAfter (now (answers .entry)) (now (records .entry)) ⌝ }
+    ensures decides { λ r. ⌜ Decides (Writable (now (answers .entry)) (length (now (records .entry)))) (writeConditions (now (answers .entry)) (length (now (records .entry)))) (r .outcome) ⌝ }
+    ensures writes { λ r. ⌜ Writes (now (answers .entry)) (now (records .entry)) (numberIn (r .outcome)) (r .count) (now (records .exit)) ⌝ }
 {
     let answer = recording::write_answer(answers, records.len());
     let mut at: usize = 0;
@@ -54,6 +62,8 @@ fn paint_all(records: &[Run], row: &mut [u8], n: usize)
 pub fn expand_log(records: &[Run], bytes: &mut [u8]) -> Logged
     ensures answer { λ r. ⌜ r ≡ expandAnswer (now (records .entry)) (length (now (bytes .entry))) ⌝ }
     ensures bytes { λ r. ⌜ now (bytes .exit) ≡ rowAfter (now (records .entry)) (now (bytes .entry)) ⌝ }
+    ensures decides { λ r. ⌜ Decides (Expandable (now (records .entry)) (length (now (bytes .entry)))) (expandConditions (now (records .entry)) (length (now (bytes .entry)))) (r .outcome) ⌝ }
+    ensures expands { λ r. ⌜ Expands (now (records .entry)) (now (bytes .entry)) (numberIn (r .outcome)) (r .count) (now (bytes .exit)) ⌝ }
 {
     let a = audit_all(records);
     let answer = replay::expand_answer(a, bytes.len());

@@ -5,6 +5,7 @@ use Rattle.runs.specs.declared.Run.{Run}
 use Rattle.replay.specs.declared.Audit.{Audit}
 use Rattle.runs.specs.declared.Logged.{Logged}
 use Rattle.replay.specs.Tests.{auditOf, auditStart, auditAnswer, paintedAll, toPaint, expandAnswer, rowAfter}
+use Rattle.replay.proofs.PromiseLaws.{expand-decides, expands}
 use Rattle.replay.proofs.AuditLaws.{range-all, audit-answers}
 use Rattle.replay.proofs.PaintLaws.{row-painted, to-paint-le}
 use Rattle.runlog.proofs.Again.{LentAgain, lends-again, comes-back}
@@ -120,7 +121,7 @@ module _ {M : Type 1} (𝓤 : URA M) (H : Heap 𝓤) (A : Atoms 𝓤) (W : Given
       qed W (‵ (Row l) ∷ ‵ (flft κ′ q′) ∷ ‵ (flft κ q) ∷ ‵ Own ∷ []) ∵
       suffices ! _ (ends-at 𝓤 H A f.ended stayed (f.clauses 𝓤 H A at-mem run) W (((κ, (κ′, tt)), (q, (q′, tt)), tt, args, at), tt) (said c) c (tt, (l, tt)) (tt, (len, tt))) $
       -- the clauses, in the contract's order
-      states ! (also ec (last el)) $
+      states ! (also ec (also el (also (expand-decides rs (length ys) ec) (last (expands rs ys ec el))))) $
       nothing ! $ move ! (2 ∷ 0 ∷ []) $ join ! $ move ! (2 ∷ 0 ∷ []) $ join ! $ frame ! $
       nothing ! $ move ! (1 ∷ 0 ∷ []) $ fjoin ! $ move ! (1 ∷ 0 ∷ []) $ fjoin ! $ frame ! $ owned ! L.the-row (Is L.the-row) (LL.makes L.the-type L′.the-plain 𝓤 H A) c _ is $ done !
 

@@ -5,6 +5,7 @@ use Rattle.runs.specs.declared.Run.{Run}
 use Rattle.runs.specs.declared.Logged.{Logged}
 use Rattle.runs.specs.Runs.{runs as runs-of}
 use Rattle.recording.specs.Tests.{writeAnswer, logAfter}
+use Rattle.recording.proofs.PromiseLaws.{write-decides, writes}
 use Rattle.recording.proofs.PassLaws.{Ends, pass-end}
 use Rattle.recording.proofs.WriteLaws.{counted, filled, filled-length, filled-step, log-filled, Passed, passed-inside, passed-next, IsRun, passed-run}
 use Rattle.runs.proofs.Run as T
@@ -104,7 +105,7 @@ module _ {M : Type 1} (𝓤 : URA M) (H : Heap 𝓤) (A : Atoms 𝓤) (W : Given
       qed W (Log ws) ∵
       suffices ! _ (ends-at 𝓤 H A f.ended stayed (f.clauses 𝓤 H A at-mem run) W (((κ, (κ′, tt)), (q, (q′, tt)), tt, args, at), tt) (said c) c (tt, (ws, tt)) (tt, (len, tt))) $
       -- the clauses, in the contract's order
-      states ! (also ec (last e)) $
+      states ! (also ec (also e (also (write-decides xs (length ys) ec) (last (writes xs ys ec e))))) $
       move ! (3 ∷ []) $ split ! $ move ! (4 ∷ 1 ∷ []) $ join ! $ move ! (1 ∷ 0 ∷ []) $ join ! $ frame ! $
       -- [obs; the borrow; what answers own]
       fjoin ! $ pureI ! (at-slice T.the-row (record { ptr = (b, o); name = γ; now = ws }) (at .1 .0)) (tt, (tt, tt)) (ap (λ (m : ℕ). sliceVal (b, o) m ∷ []) (sym len), subst (Room T.the-row) (sym len) gn) $ fjoin ! $
