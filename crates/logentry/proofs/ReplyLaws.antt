@@ -3,7 +3,7 @@ use mathlib.Core.Path.{_≡_, refl, sym, _∙_, ap, subst}
 use mathlib.Core.Logic.{⊎-elim}
 use mathlib.Core.Bool.{Bool, true, false, not}
 use mathlib.Core.List.{List, [], _∷_}
-use Prim.Native.Nat.{ℕ, zero, suc, _+_, _-_, _≤_, _<_, _^_, zero-le}
+use Prim.Native.Nat.{ℕ, zero, suc, _+_, _≤_, _<_, _^_, zero-le}
 use native.Mathlib.Omega.{arith}
 use borrow.Author.Tests.{ltb-false}
 use lib.Dec.{ltb, eqb}
@@ -11,7 +11,7 @@ use lib.ListN.{length}
 use Rattle.numbers.specs.First.{first}
 use Rattle.numbers.proofs.FirstLaws.{first-is}
 use Rattle.refusal.specs.Causes.{numberOf, placeOf, numberIn, placeIn}
-use Rattle.refusal.specs.Tests.{_then_, refuseIf, refuseAt, roomTest, byOutcome}
+use Rattle.refusal.specs.Tests.{_then_, refuseIf, refuseAt, byOutcome}
 use Rattle.refusal.specs.declared.Cause.{Cause}
 use Rattle.refusal.specs.declared.Cause.the-variants.{Answer, LogRoom, Record}
 use Rattle.refusal.specs.declared.Outcome.{Outcome}

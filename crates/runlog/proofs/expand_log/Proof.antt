@@ -1,5 +1,5 @@
 -- `expand_log` by a walk of its code: four calls, the last with the row lent again.
-use Rattle.runlog.proofs.Walk.{_≡_, refl, sym, _∙_, ap, subst, ℕ, _<_, _≤_, _^_, zero-le, true, [], _∷_, List, Holds, length, take, URA, fullShare, Ty, named, imm, mut, erased, w8, w64, tyInt, tyUnit, tyRef, Val, WT, hasTy, vint, SProp, ent, sep, emp, via, fst∗, snd∗, exE, id⊢, Lft, Share, GName, Fml, ftrue, fat, froom, fdies, flft, Memory, Routine, Heap, Env, Calls, Loops, WpFn, Tables, Atoms, sem, Fun, fact, givenOf, tables, tablesOf, Given, Item, ‵, raw, _⊛_, ⋆, some, later, runs, atRet, Sq, _$_, _∵_, !, qed, by, move, keep, drops, use1, use2, use3, split, join, pick, rewrite, fsplit, fjoin, feqL, suffices, frame, await, done, look, init, forget, stop, hop, fld, from, load, addr, of-opd, and-then, no-more, assigns, land, first, returns, enter, alloc1, alloc0, params1, pass1, pass0, free1, free0, again, agg, whole, sub, look-in, lft-new, lft-end, fmOf, WpFn-mono, owns, Is, shows, pointee, uint-makes, uint-lawful, u8, usize, unit, RefT, sliceTy, sliceVal, ShrSlice, MutSlice, Room, mut-slice-tells, slice-vals, shr-slice-tells, shr-slice-copy, plain, only, owned, peeks, heard, nothing, Contract, Triple, calls-at, onEntry, Meets, tripleOf, entered, cited, ensured, lasts, says, states, also, last, Stays, stay-slice, stay-none-slice, walkOf, goes-slice, goes-none-slice, Walks, ends-at, walked, walk-meets, yes}
+use Rattle.runlog.proofs.Walk.{_≡_, refl, sym, _∙_, ap, subst, ℕ, _<_, _≤_, _^_, zero-le, true, [], _∷_, List, Holds, length, take, URA, fullShare, Ty, named, imm, mut, erased, w8, w64, tyInt, tyUnit, tyRef, Val, WT, hasTy, vint, SProp, ent, sep, emp, via, fst∗, snd∗, exE, id⊢, Lft, Share, GName, Fml, ftrue, fat, froom, fdies, flft, Memory, Routine, Heap, Env, Calls, Loops, WpFn, Tables, Atoms, sem, Fun, fact, givenOf, tables, tablesOf, Given, Item, ‵, raw, _⊛_, ⋆, some, later, runs, atRet, Sq, _$_, _∵_, !, qed, by, move, keep, drops, use1, use2, use3, split, join, pick, rewrite, fsplit, fjoin, feqL, suffices, frame, await, done, look, init, forget, stop, hop, fld, from, load, addr, of-opd, and-then, no-more, assigns, land, first, returns, enter, alloc1, alloc0, params1, pass1, pass0, free1, free0, again, agg, whole, sub, look-in, lft-new, lft-end, fmOf, WpFn-mono, owns, Is, shows, pointee, uint-makes, uint-lawful, u8, usize, unit, RefT, sliceTy, sliceVal, ShrSlice, MutSlice, Room, mut-slice-tells, slice-vals, shr-slice-tells, shr-slice-copy, reads-copy, plain, only, owned, peeks, heard, nothing, Contract, Triple, calls-at, onEntry, Meets, tripleOf, entered, cited, ensured, lasts, says, states, also, last, Stays, stay-slice, stay-none-slice, walkOf, goes-slice, goes-none-slice, Walks, ends-at, walked, walk-meets, yes}
 use denote.Struct.Laws as LL
 use Rattle.runs.specs.declared.Run.{Run}
 use Rattle.replay.specs.declared.Audit.{Audit}
@@ -131,11 +131,7 @@ module _ {M : Type 1} (𝓤 : URA M) (H : Heap 𝓤) (A : Atoms 𝓤) (W : Given
 
   goes-audit : ent 𝓤 (⋆ 𝓤 H A ((‵ (flft κ q) ⊛ ‵ ftrue) ∷ ‵ Own ∷ [])) (sep 𝓤 (AuditAll 𝓤 H A at-mem run .pre to-audit) (sem 𝓤 H A Own))
   goes-audit =
-      qed W ((‵ (flft κ q) ⊛ ‵ ftrue) ∷ ‵ Own ∷ []) ∵ move ! (1 ∷ []) $ use1 W (‵ Own ⊛ ‵ Own) (shr-slice-copy 𝓤 H A W (named 0) κ T.the-row .twice s (v ∷ [])) $ split ! $
-      nothing ! $ move ! (1 ∷ 0 ∷ []) $ fjoin ! $ move ! (2 ∷ 0 ∷ []) $ use2 W (raw (AuditAll 𝓤 H A at-mem run .pre to-audit)) asked $ frame ! $ done !
-    where
-      asked : ent 𝓤 (onEntry 𝓤 H A audit.signature (κ, tt) (q, tt) (s, tt) (v ∷ [], tt)) (AuditAll 𝓤 H A at-mem run .pre to-audit)
-      asked = qed W ((‵ (flft κ q) ⊛ ‵ ftrue) ∷ ‵ (owns (ShrSlice (named 0) κ T.the-row ∷ []) (s, tt) (v ∷ [], tt)) ∷ []) ∵ join ! $ frame ! $ done !
+      reads-copy 𝓤 H A W T.the-row κ q s v ftrue _ (id⊢ 𝓤 (sem 𝓤 H A ftrue)) (qed W ((‵ (flft κ q) ⊛ ‵ ftrue) ∷ ‵ (owns (ShrSlice (named 0) κ T.the-row ∷ []) (s, tt) (v ∷ [], tt)) ∷ []) ∵ join ! $ frame ! $ done !)
 
   abbrev to-answer : Audit → ℕ → Answer 𝓤 H A at-mem run .Ghost
   to-answer a m = ((tt, tt, tt, (a, (m, tt)), (held a ∷ [], (vint w64 m ∷ [], tt))), tt)

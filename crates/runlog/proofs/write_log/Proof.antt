@@ -1,5 +1,5 @@
 -- `write_log` by a walk of its code: a turn calls `run_end` and `run_of`, opens the borrow of the records, stores one and closes the borrow.
-use Rattle.runlog.proofs.Walk.{_≡_, refl, sym, _∙_, ap, subst, ℕ, _+_, _-_, _<_, _≤_, _*_, _^_, zero-le, arith, Bool, true, false, [], _∷_, List, WellFounded, InvImage·wf, Nat·lt-wfRel, ltb, lit<, length, set, length-set, ltb-true, ltb-false, URA, fullShare, Ty, named, imm, mut, w8, w64, tyInt, tyBool, tyPtr, tyRef, Val, vbool, vint, vptr, SProp, ent, sep, emp, via, fst∗, snd∗, exE, id⊢, Lft, Share, GName, Fml, ftrue, fat, froom, fdies, flft, fobs, fbor, Memory, Routine, Heap, Out, Env, Calls, Loops, Wp, WpFn, Tables, afterSeq, afterBlock, afterTurn, atReturn, Atoms, sem, Fun, fact, givenOf, tables, tablesOf, Given, Item, ‵, raw, _⊛_, ⋆, some, later, runs, anyQ, atRet, Sq, _$_, _∵_, !, qed, by, move, keep, drops, use1, use2, split, join, pick, rewrite, fsplit, fjoin, suffices, frame, await, done, look, init, store, store-raw, forget, stop, hop, fld, from, load, lit, of-opd, bin, and-then, no-more, assigns, assigns-last, land, first, blocks, stays, leaves-loop, returns, enter, alloc1, alloc0, params1, pass1, pass0, free1, free0, exec, Below, again, loops, whole, sub, look-in, fmOf, WpFn-mono, owns, pureI, Is, shows, pointee, uint-makes, uint-lawful, u8, usize, RefT, sliceTy, sliceVal, ShrSlice, MutSlice, Room, heres, codedHoleys, at-slice, mut-slice-tells, slice-vals, shr-slice-tells, shr-slice-lawful, shr-slice-copy, Held, place-is, elem-out, elem-put, opens-slice, closes-slice, plain, only, owned, peeks, heard, nothing, Contract, Triple, calls-at, onEntry, Meets, tripleOf, entered, cited, ensured, lasts, says, states, also, last, Stays, stay-slice, stay-none-slice, walkOf, goes-slice, goes-none-slice, Walks, ends-at, walked, walk-meets, yes}
+use Rattle.runlog.proofs.Walk.{_≡_, refl, sym, _∙_, ap, subst, ℕ, _+_, _-_, _<_, _≤_, _*_, _^_, zero-le, arith, Bool, true, false, [], _∷_, List, WellFounded, InvImage·wf, Nat·lt-wfRel, ltb, lit<, length, set, length-set, ltb-true, ltb-false, URA, fullShare, Ty, named, imm, mut, w8, w64, tyInt, tyBool, tyPtr, tyRef, Val, vbool, vint, vptr, SProp, ent, sep, emp, via, fst∗, snd∗, exE, id⊢, Lft, Share, GName, Fml, ftrue, fat, froom, fdies, flft, fobs, fbor, Memory, Routine, Heap, Out, Env, Calls, Loops, Wp, WpFn, Tables, afterSeq, afterBlock, afterTurn, atReturn, Atoms, sem, Fun, fact, givenOf, tables, tablesOf, Given, Item, ‵, raw, _⊛_, ⋆, some, later, runs, anyQ, atRet, Sq, _$_, _∵_, !, qed, by, move, keep, drops, use1, use2, split, join, pick, rewrite, fsplit, fjoin, suffices, frame, await, done, look, init, store, store-raw, forget, stop, hop, fld, from, load, lit, of-opd, bin, and-then, no-more, assigns, assigns-last, land, first, blocks, stays, leaves-loop, returns, enter, alloc1, alloc0, params1, pass1, pass0, free1, free0, exec, Below, again, loops, whole, sub, look-in, fmOf, WpFn-mono, owns, pureI, Is, shows, pointee, uint-makes, uint-lawful, u8, usize, RefT, sliceTy, sliceVal, ShrSlice, MutSlice, Room, heres, codedHoleys, at-slice, mut-slice-tells, slice-vals, shr-slice-tells, shr-slice-lawful, reads-copy, Held, place-is, elem-out, elem-put, opens-slice, closes-slice, plain, only, owned, peeks, heard, nothing, Contract, Triple, calls-at, onEntry, Meets, tripleOf, entered, cited, ensured, lasts, says, states, also, last, Stays, stay-slice, stay-none-slice, walkOf, goes-slice, goes-none-slice, Walks, ends-at, walked, walk-meets, yes}
 use denote.Struct.Laws as LL
 use Rattle.runs.specs.declared.Run.{Run}
 use Rattle.runs.specs.declared.Logged.{Logged}
@@ -127,32 +127,33 @@ module _ {M : Type 1} (𝓤 : URA M) (H : Heap 𝓤) (A : Atoms 𝓤) (W : Given
   abbrev to-of : ℕ → ℕ → RunOf 𝓤 H A at-mem run .Ghost
   to-of m e = (((κ, tt), (q, tt), tt, (s, (m, (e, tt))), three-args m e), tt)
 
+  -- what one word owns, and two
+  abbrev One : ℕ → Fml
+  One m = owns (usize ∷ []) (m, tt) (vint w64 m ∷ [], tt)
+
+  abbrev Two : ℕ → ℕ → Fml
+  Two m e = owns (usize ∷ usize ∷ []) (m, (e, tt)) (vint w64 m ∷ [], (vint w64 e ∷ [], tt))
+
+  one : (m : ℕ) → m < 2 ^ 64 → ent 𝓤 (sem 𝓤 H A ftrue) (sem 𝓤 H A (One m))
+  one m fits = qed W (‵ ftrue ∷ []) ∵ owned ! usize (Is usize) (uint-makes 𝓤 H A W w64) m _ (refl, fits) $ fjoin ! $ done !
+
+  two : (m e : ℕ) → m < 2 ^ 64 → e < 2 ^ 64 → ent 𝓤 (sem 𝓤 H A ftrue) (sem 𝓤 H A (Two m e))
+  two m e fits fits′ = qed W (‵ ftrue ∷ []) ∵ use1 W (‵ (One e)) (one e fits′) $ owned ! usize (Is usize) (uint-makes 𝓤 H A W w64) m _ (refl, fits) $ fjoin ! $ done !
+
   goes-answer : (m : ℕ) → m < 2 ^ 64 → ent 𝓤 (⋆ 𝓤 H A ((‵ (flft κ q) ⊛ ‵ ftrue) ∷ ‵ Own ∷ [])) (sep 𝓤 (Answer 𝓤 H A at-mem run .pre (to-answer m)) (sem 𝓤 H A Own))
   goes-answer m fits =
-      qed W ((‵ (flft κ q) ⊛ ‵ ftrue) ∷ ‵ Own ∷ []) ∵ move ! (1 ∷ []) $ use1 W (‵ Own ⊛ ‵ Own) (shr-slice-copy 𝓤 H A W (named 0) κ u8 .twice s (v ∷ [])) $ split ! $
-      nothing ! $ owned ! usize (Is usize) (uint-makes 𝓤 H A W w64) m _ (refl, fits) $ fjoin ! $ move ! (1 ∷ 0 ∷ []) $ fjoin ! $
-      move ! (2 ∷ 0 ∷ []) $ use2 W (raw (Answer 𝓤 H A at-mem run .pre (to-answer m))) asked $ frame ! $ done !
-    where
-      asked : ent 𝓤 (onEntry 𝓤 H A answer.signature (κ, tt) (q, tt) (s, (m, tt)) (two-args m)) (Answer 𝓤 H A at-mem run .pre (to-answer m))
-      asked = qed W ((‵ (flft κ q) ⊛ ‵ ftrue) ∷ ‵ (owns (ShrSlice (named 0) κ u8 ∷ usize ∷ []) (s, (m, tt)) (two-args m)) ∷ []) ∵ join ! $ frame ! $ done !
+      reads-copy 𝓤 H A W u8 κ q s v (One m) _ (one m fits)
+      (qed W ((‵ (flft κ q) ⊛ ‵ ftrue) ∷ ‵ (owns (ShrSlice (named 0) κ u8 ∷ usize ∷ []) (s, (m, tt)) (two-args m)) ∷ []) ∵ join ! $ frame ! $ done !)
 
   goes-end : (m : ℕ) → m < 2 ^ 64 → m < length xs → ent 𝓤 (⋆ 𝓤 H A ((‵ (flft κ q) ⊛ ‵ ftrue) ∷ ‵ Own ∷ [])) (sep 𝓤 (RunEnd 𝓤 H A at-mem run .pre (to-end m)) (sem 𝓤 H A Own))
   goes-end m fits inside =
-      qed W ((‵ (flft κ q) ⊛ ‵ ftrue) ∷ ‵ Own ∷ []) ∵ move ! (1 ∷ []) $ use1 W (‵ Own ⊛ ‵ Own) (shr-slice-copy 𝓤 H A W (named 0) κ u8 .twice s (v ∷ [])) $ split ! $
-      nothing ! $ owned ! usize (Is usize) (uint-makes 𝓤 H A W w64) m _ (refl, fits) $ fjoin ! $ move ! (1 ∷ 0 ∷ []) $ fjoin ! $
-      move ! (2 ∷ 0 ∷ []) $ use2 W (raw (RunEnd 𝓤 H A at-mem run .pre (to-end m))) asked $ frame ! $ done !
-    where
-      asked : ent 𝓤 (onEntry 𝓤 H A run-end.signature (κ, tt) (q, tt) (s, (m, tt)) (two-args m)) (RunEnd 𝓤 H A at-mem run .pre (to-end m))
-      asked = qed W ((‵ (flft κ q) ⊛ ‵ ftrue) ∷ ‵ (owns (ShrSlice (named 0) κ u8 ∷ usize ∷ []) (s, (m, tt)) (two-args m)) ∷ []) ∵ says ! inside $ frame ! $ done !
+      reads-copy 𝓤 H A W u8 κ q s v (One m) _ (one m fits)
+      (qed W ((‵ (flft κ q) ⊛ ‵ ftrue) ∷ ‵ (owns (ShrSlice (named 0) κ u8 ∷ usize ∷ []) (s, (m, tt)) (two-args m)) ∷ []) ∵ says ! inside $ frame ! $ done !)
 
   goes-of : (m e : ℕ) → m < 2 ^ 64 → e < 2 ^ 64 → (m < length xs) × ((m ≤ e) × (e ≤ 60000)) → ent 𝓤 (⋆ 𝓤 H A ((‵ (flft κ q) ⊛ ‵ ftrue) ∷ ‵ Own ∷ [])) (sep 𝓤 (RunOf 𝓤 H A at-mem run .pre (to-of m e)) (sem 𝓤 H A Own))
   goes-of m e fits fits′ inside =
-      qed W ((‵ (flft κ q) ⊛ ‵ ftrue) ∷ ‵ Own ∷ []) ∵ move ! (1 ∷ []) $ use1 W (‵ Own ⊛ ‵ Own) (shr-slice-copy 𝓤 H A W (named 0) κ u8 .twice s (v ∷ [])) $ split ! $
-      nothing ! $ owned ! usize (Is usize) (uint-makes 𝓤 H A W w64) e _ (refl, fits′) $ fjoin ! $ owned ! usize (Is usize) (uint-makes 𝓤 H A W w64) m _ (refl, fits) $ fjoin ! $ move ! (1 ∷ 0 ∷ []) $ fjoin ! $
-      move ! (2 ∷ 0 ∷ []) $ use2 W (raw (RunOf 𝓤 H A at-mem run .pre (to-of m e))) asked $ frame ! $ done !
-    where
-      asked : ent 𝓤 (onEntry 𝓤 H A run-of.signature (κ, tt) (q, tt) (s, (m, (e, tt))) (three-args m e)) (RunOf 𝓤 H A at-mem run .pre (to-of m e))
-      asked = qed W ((‵ (flft κ q) ⊛ ‵ ftrue) ∷ ‵ (owns (ShrSlice (named 0) κ u8 ∷ usize ∷ usize ∷ []) (s, (m, (e, tt))) (three-args m e)) ∷ []) ∵ says ! inside $ frame ! $ done !
+      reads-copy 𝓤 H A W u8 κ q s v (Two m e) _ (two m e fits fits′)
+      (qed W ((‵ (flft κ q) ⊛ ‵ ftrue) ∷ ‵ (owns (ShrSlice (named 0) κ u8 ∷ usize ∷ usize ∷ []) (s, (m, (e, tt))) (three-args m e)) ∷ []) ∵ says ! inside $ frame ! $ done !)
 
   module _ (gx : length xs < 2 ^ 64) (gn : Room T.the-row (length ys)) (𝓣 : Tables 𝓤 H) (known-answer : Triple 𝓤 (𝓣 .C #recording·write-answer) (Answer 𝓤 H A at-mem run))
       (known-end : Triple 𝓤 (𝓣 .C #recording·run-end) (RunEnd 𝓤 H A at-mem run)) (known-of : Triple 𝓤 (𝓣 .C #recording·run-of) (RunOf 𝓤 H A at-mem run)) (l₀ l₁ l₂ l₃ l₄ l₅ l₆ l₇ l₈ l₉ l₁₀ l₁₁ : ℕ) where
