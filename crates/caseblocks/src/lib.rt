@@ -58,6 +58,46 @@ pub fn numbers_of(bytes: &[u8]) -> [u32; 16]
     numbers
 }
 
+// Reads a block of exactly the buffer's length; false where there is none.
+pub fn read_exact(buffer: &mut [u8]) -> bool {
+    let length = buffer.len();
+    let block = read_block(buffer);
+    block.whole & (block.length == length)
+}
+
+// A number that was read, and whether its block is whole.
+pub struct Number {
+    pub whole: bool,
+    pub value: u32,
+}
+
+// Reads a number, a block of 4 bytes.
+pub fn read_number() -> Number {
+    let mut bytes = [0u8; 4];
+    let whole = read_exact(&mut bytes);
+    Number {
+        whole: whole,
+        value: wire::word(&bytes, 0),
+    }
+}
+
+// Sixteen numbers that were read, and whether their block is whole.
+pub struct Sixteen {
+    pub whole: bool,
+    pub numbers: [u32; 16],
+}
+
+// Reads sixteen numbers, a block of 64 bytes.
+pub fn read_sixteen() -> Sixteen {
+    let mut bytes = [0u8; 64];
+    let whole = read_exact(&mut bytes);
+    let numbers = numbers_of(&bytes);
+    Sixteen {
+        whole: whole,
+        numbers: numbers,
+    }
+}
+
 // Slot `k` of a record's bytes.
 fn slot_in(bytes: &[u8], k: usize) -> Slot
     requires { ⌜ k < 16 ⌝ }

@@ -1,49 +1,7 @@
 // One program over the library for tests from outside: it runs the cases on standard input and prints their lines.
-// A case is its code in one byte, then its blocks. Each code has a file in `caselines`, which names its blocks.
-use fields::Fields;
+// A case is its code in one byte, then its blocks. Each code has a file in `caselines`, which names its blocks; those of the run log stand in `caseoutputs`.
 use refusal::Outcome;
 use runner::Core;
-use storing::Transfer;
-
-// Reads a block of exactly the buffer's length; false where there is none.
-fn read_exact(buffer: &mut [u8]) -> bool {
-    let length = buffer.len();
-    let block = caseblocks::read_block(buffer);
-    block.whole & (block.length == length)
-}
-
-// A number that was read, and whether its block is whole.
-struct Number {
-    whole: bool,
-    value: u32,
-}
-
-// Reads a number, a block of 4 bytes.
-fn read_number() -> Number {
-    let mut bytes = [0u8; 4];
-    let whole = read_exact(&mut bytes);
-    Number {
-        whole: whole,
-        value: wire::word(&bytes, 0),
-    }
-}
-
-// Sixteen numbers that were read, and whether their block is whole.
-struct Sixteen {
-    whole: bool,
-    numbers: [u32; 16],
-}
-
-// Reads sixteen numbers, a block of 64 bytes.
-fn read_sixteen() -> Sixteen {
-    let mut bytes = [0u8; 64];
-    let whole = read_exact(&mut bytes);
-    let numbers = caseblocks::numbers_of(&bytes);
-    Sixteen {
-        whole: whole,
-        numbers: numbers,
-    }
-}
 
 // Prints a table's line; false where the output fails.
 fn run_table(table: &[u8]) -> bool {
@@ -63,7 +21,7 @@ fn run_setup(code: u8, table: &[u8]) -> bool {
 
 // Reads a limit and prints the plan's line; false where the case is not whole or the output fails.
 fn run_plan(table: &[u8], charge: u32, cores: &[u8]) -> bool {
-    let limit = read_number();
+    let limit = caseblocks::read_number();
     if !limit.whole {
         return false;
     }
@@ -73,7 +31,7 @@ fn run_plan(table: &[u8], charge: u32, cores: &[u8]) -> bool {
 
 // The same for a table for bus drives.
 fn run_bus_plan(table: &[u8]) -> bool {
-    let limit = read_number();
+    let limit = caseblocks::read_number();
     if !limit.whole {
         return false;
     }
@@ -99,7 +57,7 @@ fn run_ticks(core: Core, accepted: bool, count: u32) -> bool {
     let mut present = core;
     let mut left = count;
     while 0 < left {
-        let requests = read_sixteen();
+        let requests = caseblocks::read_sixteen();
         if !requests.whole {
             return false;
         }
@@ -127,10 +85,10 @@ fn is_accepted(outcome: Outcome) -> bool {
 // Reads core number and tick count, prints the core's line and runs its ticks; false where the case is not whole or the output fails.
 fn run_started(table: &[u8], charge: u32, cores: &[u8], placement: &[u8]) -> bool {
     let mut number = [0u8; 1];
-    if !read_exact(&mut number) {
+    if !caseblocks::read_exact(&mut number) {
         return false;
     }
-    let count = read_number();
+    let count = caseblocks::read_number();
     if !count.whole {
         return false;
     }
@@ -155,15 +113,15 @@ fn run_core(table: &[u8], charge: u32, cores: &[u8]) -> bool {
 
 // Reads a charge, slots and sixteen requests and prints the tick's line; false where the case is not whole or the output fails.
 fn run_record() -> bool {
-    let charge = read_number();
+    let charge = caseblocks::read_number();
     if !charge.whole {
         return false;
     }
     let mut record = [0u8; 256];
-    if !read_exact(&mut record) {
+    if !caseblocks::read_exact(&mut record) {
         return false;
     }
-    let requests = read_sixteen();
+    let requests = caseblocks::read_sixteen();
     if !requests.whole {
         return false;
     }
@@ -174,81 +132,6 @@ fn run_record() -> bool {
     };
     let numbers = requests.numbers;
     console::show(caselines::records::record_line(core.tick(numbers))).whole
-}
-
-// Prints every byte of an output and ends the line; false where the output fails.
-fn show_bytes(out: &[u8]) -> bool {
-    let mut at = 0;
-    while at < out.len() {
-        if !console::show(caselines::outputs::piece(&out[at..])).whole {
-            return false;
-        }
-        at += caselines::outputs::piece_length(out.len() - at);
-    }
-    let nothing = text::empty();
-    console::show(text::append_bytes(nothing, b"\n")).whole
-}
-
-// Prints the line of a call that stored a table; false where the output fails.
-fn show_stored(answer: Transfer, out: &[u8]) -> bool {
-    if !console::show(caselines::outputs::answer_start(answer)).whole {
-        return false;
-    }
-    show_bytes(out)
-}
-
-// Writes fields to a lent output and prints the line; false where the output fails.
-fn write_fields(f: Fields, out: &mut [u8]) -> bool {
-    let answer = transfer::write_new(f, out);
-    show_stored(answer, out)
-}
-
-// Reads a lent output and writes fields to it; false where the case is not whole or the output fails.
-fn run_fields(f: Fields) -> bool {
-    let mut out = [0u8; 1024];
-    let block = caseblocks::read_block(&mut out);
-    if !block.whole {
-        return false;
-    }
-    let n = block.length;
-    write_fields(f, &mut out[..n])
-}
-
-// Reads fields and runs the writer; false where the case is not whole or the output fails.
-fn run_writer() -> bool {
-    let n = read_number();
-    let m = read_number();
-    let charge = read_number();
-    let periods = read_sixteen();
-    let budgets = read_sixteen();
-    let mut affinity = [0u8; 16];
-    let last = read_exact(&mut affinity);
-    if !(n.whole & m.whole & charge.whole & periods.whole & budgets.whole & last) {
-        return false;
-    }
-    let p = periods.numbers;
-    let b = budgets.numbers;
-    run_fields(caseblocks::fields_in(n.value, m.value, charge.value, p, b, affinity))
-}
-
-// Moves a table to a lent output, to the new form by code 9 and back by any other, and prints the line; false where the output fails.
-fn move_table(code: u8, table: &[u8], out: &mut [u8]) -> bool {
-    let answer = match code {
-        9 => transfer::to_new(table, out),
-        _ => transfer::to_old(table, out),
-    };
-    show_stored(answer, out)
-}
-
-// Reads a lent output and moves a table to it; false where the case is not whole or the output fails.
-fn run_move(code: u8, table: &[u8]) -> bool {
-    let mut out = [0u8; 1024];
-    let block = caseblocks::read_block(&mut out);
-    if !block.whole {
-        return false;
-    }
-    let n = block.length;
-    move_table(code, table, &mut out[..n])
 }
 
 // Reads a dependency list, checks it beside a table and prints the line; false where the case is not whole or the output fails.
@@ -288,7 +171,7 @@ fn run_charged(code: u8, table: &[u8], charge: u32) -> bool {
 
 // Reads a charge and runs a case whose first block was this table; false where the case is not whole or fails.
 fn run_on_board(code: u8, table: &[u8]) -> bool {
-    let charge = read_number();
+    let charge = caseblocks::read_number();
     if !charge.whole {
         return false;
     }
@@ -300,7 +183,7 @@ fn run_on(code: u8, table: &[u8]) -> bool {
     match code {
         1 => run_table(table),
         7 | 12 => run_setup(code, table),
-        9 | 10 => run_move(code, table),
+        9 | 10 => caseoutputs::tables::run_move(code, table),
         11 => run_dependencies(table),
         13 => run_bus_plan(table),
         _ => run_on_board(code, table),
@@ -318,11 +201,14 @@ fn run_tabled(code: u8) -> bool {
     run_on(code, &table[..n])
 }
 
-// Runs a case by its code: each but codes 4 and 8, which begin with a number, begins with a table. False where there is no such code, the case is not whole, or the output fails.
+// Runs a case by its code: each but codes 4 and 8, which begin with a number, and those of the run log begins with a table. False where
+// there is no such code, the case is not whole, or the output fails.
 fn run_case(code: u8) -> bool {
     match code {
         4 => run_record(),
-        8 => run_writer(),
+        8 => caseoutputs::tables::run_writer(),
+        14 => caseoutputs::logs::run_writer(),
+        15 => caseoutputs::logs::run_expander(),
         _ => run_tabled(code),
     }
 }

@@ -27,6 +27,10 @@ records-count ws =
     let d = div-add-mod' (length ws) 3 in
     omega (arith, b, m, d)
 
+-- so many records have their numbers in the row
+pub records-fit : (ws : List ℕ) (n : ℕ) → n ≤ length (recordsIn ws) → 3 * n ≤ length ws
+records-fit ws n h = let b = records-bound ws .0 in omega (arith, b, h)
+
 -- the numbers of record k stand in the row
 pub record-inside : (ws : List ℕ) (k : ℕ) → k < length (recordsIn ws) → 3 * k + 2 < length ws
 record-inside ws k h = let b = records-bound ws .0 in omega (arith, b, h)
@@ -69,6 +73,9 @@ stored-records (a ∷ b ∷ c ∷ ws) (suc k) r h = rw (second k, third k, tripl
 pub stored-length : (ws : List ℕ) (k : ℕ) (r : Run) → length (stored ws k r) ≡ length ws
 unfolding stored
 stored-length ws k r = simp length-set
+
+pub stored-count : (ws : List ℕ) (k : ℕ) (r : Run) → k < length (recordsIn ws) → length (recordsIn (stored ws k r)) ≡ length (recordsIn ws)
+stored-count ws k r h = ap (λ (rs : List Run). length rs) (stored-records ws k r h) ∙ length-set (recordsIn ws) k r
 
 -- what stands behind the last whole record stays
 pub stored-behind : (ws : List ℕ) (k n : ℕ) (r : Run) → k < length (recordsIn ws) → k < n → drop (3 * n) (stored ws k r) ≡ drop (3 * n) ws

@@ -17,7 +17,7 @@ use runs::Logged;
 use runs::Run;
 
 // Stores record `k`, counted from 0.
-fn put_run(words: &mut [u32], k: usize, r: Run)
+pub fn put_run(words: &mut [u32], k: usize, r: Run)
     requires { ⌜ k < length (recordsIn (now words)) ⌝ }
     ensures { λ _. ⌜ now (words .exit) ≡ stored (now (words .entry)) k r ⌝ }
 {
