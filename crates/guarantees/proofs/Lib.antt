@@ -5,3 +5,4 @@ pub mod FormLaws
 pub mod FeedLaws
 pub mod DriveLaws
 pub mod RowLaws
+pub mod LogLaws

@@ -4,3 +4,4 @@ pub mod Forms
 pub mod Feeding
 pub mod Driving
 pub mod Rows
+pub mod Logging

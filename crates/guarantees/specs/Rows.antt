@@ -27,6 +27,11 @@ use Rattle.ceiling.specs.Ceiling.{ceilingOf}
 use Rattle.quickreport.specs.Output.{quickOutputOf}
 use Rattle.dependencies.specs.Order.{orderOf as taskOrderOf}
 use Rattle.feedsreport.specs.Output.{feedsOutputOf}
+use Rattle.runs.specs.declared.Run.{Run}
+use Rattle.runs.specs.declared.Logged.{Logged}
+use Rattle.runs.specs.Runs.{run}
+use Rattle.recording.specs.Tests.{writeAnswer, logAfter}
+use Rattle.replay.specs.Tests.{expandAnswer, rowAfter}
 use Rattle.edf.specs.declared.Slot.{Slot}
 use Rattle.edf.specs.Slots.{emptySlot}
 use Rattle.edf.specs.Guarantee.{runs}
@@ -65,7 +70,7 @@ outAfter call out = exitOf Buffer (bytesFor call) (tableFor call) out
 -- the refusal of the reader; a stored table's length and the output, or the refusal, which leaves the output; the whole output of the program, and
 -- that of the quick one; the lines of a table and an answer that is given by hand; a dependency list's order, or its refusal, which gives zeros; the
 -- whole output of the program for a table and a list. Of tables for bus drives: the hyperperiod of an accepted one; the refusal of reader and planner; a
--- plan; the whole output of the program. Last, a row of the calls before these on a board with a charge, and one with core bytes.
+-- plan; the whole output of the program. Of the run log, written and expanded: number, place and count, and the row at exit. Last, a row of the calls before these on a board with a charge, and one with core bytes.
 pub data Row : Type 0 where
   frames : List ℕ → ℕ → Row
   plans : List ℕ → ℕ → Verdict → List ℕ → ℕ → ℕ → Row
@@ -91,6 +96,8 @@ pub data Row : Type 0 where
   refusesBus : List ℕ → ℕ → ℕ → Row
   plansBus : List ℕ → ℕ → Verdict → List ℕ → ℕ → ℕ → Row
   printsBus : List ℕ → String → Row
+  writesLog : List ℕ → List Run → ℕ → ℕ → ℕ → List Run → Row
+  expandsLog : List Run → List ℕ → ℕ → ℕ → ℕ → List ℕ → Row
   charged : ℕ → Row → Row
   tied : List ℕ → Row → Row
 
@@ -129,6 +136,10 @@ Holds charge bytes (refusesBus table number place) =
 Holds charge bytes (plansBus table limit verdict cores rejected steps) =
     planOf (bus table) limit ≡ record { verdict = verdict; placement = row 0 (length cores) (entry cores); rejected = rejected; steps = steps }
 Holds charge bytes (printsBus table output) = outputOf (bus table) ≡ ascii output
+Holds charge bytes (writesLog answers before number place count after) =
+    (Gives (writeAnswer answers (length before) .outcome) number place × (writeAnswer answers (length before) .count ≡ count)) × (logAfter answers before ≡ after)
+Holds charge bytes (expandsLog records before number place count after) =
+    (Gives (expandAnswer records (length before) .outcome) number place × (expandAnswer records (length before) .count ≡ count)) × (rowAfter records before ≡ after)
 Holds charge bytes (charged own row) = Holds own bytes row
 Holds charge bytes (tied own row) = Holds charge (λ table. own) row
 
@@ -477,6 +488,44 @@ more =
     (front (slot 8 1 2 0 ∷ slot 10 3 9 1 ∷ slot 5 2 4 1 ∷ []))
     ∷ []
 
+-- a row of records that a call has to leave, or to write over
+abbrev pub untouched : List Run
+untouched = run 9 9 9 ∷ run 8 8 8 ∷ run 7 7 7 ∷ run 6 6 6 ∷ []
+
+-- the log of answers 1 1 2 1
+abbrev pub shortLog : List Run
+shortLog = run 1 0 2 ∷ run 2 2 1 ∷ run 1 3 1 ∷ []
+
+-- The run log. Writing: answers into a row that is longer, and one record too short; no answers; one; an answer above 16 beside a row that is too short;
+-- sixteen and none. Expanding: the same log into its bytes, one byte more and one less; no records. Records that are unfit: a sum beyond 32 bits; tasks of
+-- 17 and 257; the task of the one before; no length; ticks from 1, and with a gap; one tick above 60,000 at once, and after others; a fit record of 60,000.
+unfoldable pub logs : List Row
+logs =
+    writesLog (1 ∷ 1 ∷ 2 ∷ 1 ∷ []) untouched 0 0 3 (run 1 0 2 ∷ run 2 2 1 ∷ run 1 3 1 ∷ run 6 6 6 ∷ [])
+    ∷ writesLog (1 ∷ 1 ∷ 2 ∷ 1 ∷ []) (run 9 9 9 ∷ run 8 8 8 ∷ []) 24 0 0 (run 9 9 9 ∷ run 8 8 8 ∷ [])
+    ∷ writesLog [] [] 0 0 0 []
+    ∷ writesLog [] untouched 0 0 0 untouched
+    ∷ writesLog (0 ∷ []) (run 9 9 9 ∷ []) 0 0 1 (run 0 0 1 ∷ [])
+    ∷ writesLog (0 ∷ []) [] 24 0 0 []
+    ∷ writesLog (1 ∷ 2 ∷ 17 ∷ 18 ∷ []) [] 23 3 0 []
+    ∷ writesLog (16 ∷ 16 ∷ 0 ∷ []) untouched 0 0 2 (run 16 0 2 ∷ run 0 2 1 ∷ run 7 7 7 ∷ run 6 6 6 ∷ [])
+    ∷ expandsLog shortLog (9 ∷ 9 ∷ 9 ∷ 9 ∷ []) 0 0 4 (1 ∷ 1 ∷ 2 ∷ 1 ∷ [])
+    ∷ expandsLog shortLog (9 ∷ 9 ∷ 9 ∷ 9 ∷ 9 ∷ []) 25 0 0 (9 ∷ 9 ∷ 9 ∷ 9 ∷ 9 ∷ [])
+    ∷ expandsLog shortLog (9 ∷ 9 ∷ 9 ∷ []) 25 0 0 (9 ∷ 9 ∷ 9 ∷ [])
+    ∷ expandsLog [] [] 0 0 0 []
+    ∷ expandsLog [] (9 ∷ []) 25 0 0 (9 ∷ [])
+    ∷ expandsLog (run 1 0 2 ∷ run 2 2 4294967294 ∷ []) [] 25 2 0 []
+    ∷ expandsLog (run 17 0 1 ∷ []) (9 ∷ []) 25 1 0 (9 ∷ [])
+    ∷ expandsLog (run 1 0 1 ∷ run 257 1 1 ∷ []) (9 ∷ 9 ∷ []) 25 2 0 (9 ∷ 9 ∷ [])
+    ∷ expandsLog (run 1 0 1 ∷ run 1 1 1 ∷ []) (9 ∷ 9 ∷ []) 25 2 0 (9 ∷ 9 ∷ [])
+    ∷ expandsLog (run 1 0 0 ∷ []) [] 25 1 0 []
+    ∷ expandsLog (run 1 1 1 ∷ []) (9 ∷ []) 25 1 0 (9 ∷ [])
+    ∷ expandsLog (run 1 0 1 ∷ run 2 2 1 ∷ []) (9 ∷ 9 ∷ []) 25 2 0 (9 ∷ 9 ∷ [])
+    ∷ expandsLog (run 1 0 60001 ∷ []) [] 25 1 0 []
+    ∷ expandsLog (run 1 0 59999 ∷ run 2 59999 1 ∷ run 3 60000 1 ∷ []) [] 25 3 0 []
+    ∷ expandsLog (run 1 0 60000 ∷ []) [] 25 0 0 []
+    ∷ []
+
 -- rows a to i and k; where the paper gives no limit it is 1,000,000
 unfoldable pub rows : List Row
 rows =
@@ -505,3 +554,4 @@ pub record WorkedRows : Type 0 where
   pub moved-tables : AllHold moves
   pub feeding-tasks : AllHold feeds
   pub bus-drives : AllHold drives
+  pub run-logs : AllHold logs

@@ -60,12 +60,34 @@ module _ (xs : List ℕ) (room : ℕ) where
   pub writable : writeOutcome xs room ≡ Accepted → Writable xs room
   writable e = accepts (decides write-tested) .0 e
 
+  pub write-accepts : Writable xs room → writeOutcome xs room ≡ Accepted
+  write-accepts v = accepts (decides write-tested) .1 v
+
+  pub write-said : writeAnswer xs room .outcome ≡ writeOutcome xs room
+  write-said = said refl
+
 -- ---- what is promised
 
 -- no answer above 16, one after another
 pub all-low : (xs : List ℕ) → ((k : ℕ) → k < length xs → entry xs k ≤ 16) → AllLow xs
 all-low [] h = tt
 all-low (b ∷ xs) h = (h 0 (omega arith), all-low xs (λ (k : ℕ) (l : k < length xs). h (suc k) (omega (arith, l))))
+
+-- the same by its index
+pub low-entry : (xs : List ℕ) → AllLow xs → (k : ℕ) → k < length xs → entry xs k ≤ 16
+low-entry [] l k h = absurd (omega (arith, h))
+low-entry (b ∷ xs) l zero h = l .0
+low-entry (b ∷ xs) l (suc k) h = low-entry xs (l .1) k (omega (arith, h))
+
+-- the row where the answers are accepted, and its front
+pub log-accepted : (xs : List ℕ) (before : List Run) → writeOutcome xs (length before) ≡ Accepted → logAfter xs before ≡ runs xs ++ drop (length (runs xs)) before
+unfolding logAfter
+log-accepted xs before e = exit-accepted before (writeOutcome xs (length before)) (runs xs) e
+
+pub log-front : (xs : List ℕ) (before : List Run) → writeOutcome xs (length before) ≡ Accepted → take (writeAnswer xs (length before) .count) (logAfter xs before) ≡ runs xs
+log-front xs before e =
+    ap (λ (n : ℕ). take n (logAfter xs before)) (count-accepted xs (length before) e) ∙ ap (take (length (runs xs))) (log-accepted xs before e)
+    ∙ take-at (runs xs) (drop (length (runs xs)) before) (length (runs xs)) refl
 
 module _ (xs : List ℕ) (before : List Run) {answer : Logged} {after : List Run} (ea : answer ≡ writeAnswer xs (length before)) (eo : after ≡ logAfter xs before) where
   counts : answer .count ≡ writeAnswer xs (length before) .count
@@ -79,14 +101,13 @@ module _ (xs : List ℕ) (before : List Run) {answer : Logged} {after : List Run
     needs = counts ∙ count-accepted xs (length before) e
 
     stands : after ≡ runs xs ++ drop (length (runs xs)) before
-    unfolding logAfter
-    stands = eo ∙ exit-accepted before (writeOutcome xs (length before)) (runs xs) e
+    stands = eo ∙ log-accepted xs before e
 
     fits : length (runs xs) ≤ length before
     fits = let n = runs-needed xs in let h = w .fits in omega (arith, n, h)
 
     front : take (answer .count) after ≡ runs xs
-    front = ap (λ (n : ℕ). take n after) needs ∙ ap (take (length (runs xs))) stands ∙ take-at (runs xs) (drop (length (runs xs)) before) (length (runs xs)) refl
+    front = ap (λ (n : ℕ). take n after) counts ∙ ap (take (writeAnswer xs (length before) .count)) eo ∙ log-front xs before e
 
     log-there : LogOf xs (take (answer .count) after)
     log-there = subst (LogOf xs) (sym front) (runs-log xs (all-low xs (w .low)) (w .few))

@@ -1,19 +1,20 @@
 -- Filling in record after record: where all are fit and the row is of their total length, it then holds their answers.
 use mathlib.Core.Path.{_≡_, refl, sym, _∙_, ap}
-use mathlib.Core.Bool.{Bool, true, false, _&&_}
+use mathlib.Core.Bool.{Bool, true, false, not, _&&_}
 use mathlib.Core.List.{List, [], _∷_, _++_, append-assoc, append-nil}
 use Prim.Native.Nat.{ℕ, zero, suc, _+_, _<_, _≤_}
 use native.Mathlib.Omega.{arith}
-use borrow.Author.Tests.{le-leb, lt-leb, leb-true, not-false, eqb-true}
+use borrow.Author.Tests.{eq-eqb, le-leb, lt-leb, leb-true, not-false, eqb-true}
 use lib.Dec.{eqb, leb}
 use lib.ListN.{length, getD, take, drop, set, replicate, length-append, length-drop, length-replicate, drop-of-length-le, replicate-append-replicate, take-append-drop}
 use lib.Seq.{take-all, take-at, drop-cons, set-at, length-take-le}
 use Rattle.numbers.proofs.BoolLaws.{and-left, and-right}
 use Rattle.refusal.specs.Tests.{_then_, refuseIf, refuseAt, byOutcome}
 use Rattle.refusal.specs.declared.Cause.{Cause}
+use Rattle.refusal.specs.declared.Cause.the-variants.{Record}
 use Rattle.refusal.specs.declared.Outcome.{Outcome}
 use Rattle.refusal.specs.declared.Outcome.the-variants.{Accepted, Refused}
-use Rattle.refusal.proofs.TestLaws.{then-accepted, refuseAt-accepted, refuseIf-accepted, outcome-cases}
+use Rattle.refusal.proofs.TestLaws.{then-accepted, then-first, refuseAt-zero, refuseAt-accepted, refuseIf-accepted, outcome-cases}
 use mathlib.Core.Logic.{⊎-elim}
 use Rattle.runs.specs.declared.Run.{Run}
 use Rattle.runs.specs.declared.Logged.{Logged}
@@ -107,6 +108,14 @@ unfolding expandOutcome
 expand-accepted rs room e =
     let both = then-accepted _ _ e in
     (refuseAt-accepted _ _ (both .0), eqb-true (total rs) room (not-false _ (refuseIf-accepted _ _ (both .1))))
+
+-- and the other way round
+pub expand-accepts : (rs : List Run) (room : ℕ) → firstUnfit rs ≡ 0 → total rs ≡ room → expandOutcome rs room ≡ Accepted
+unfolding expandOutcome refuseIf
+expand-accepts rs room fit e = then-first _ _ (refuseAt-zero _ _ fit) ∙ none
+  where
+    none : refuseIf (not (eqb (total rs) room)) (Record 0) ≡ Accepted
+    none = rw (eq-eqb (total rs) room e)
 
 pub row-painted : (rs : List Run) (row : List ℕ) (answer : Logged) (n : ℕ) → answer ≡ expandAnswer rs (length row) → n ≡ toPaint answer (length rs) → paintedAll (take n rs) row ≡ rowAfter rs row
 unfolding rowAfter exitBy expandAnswer loggedBy toPaint byOutcome

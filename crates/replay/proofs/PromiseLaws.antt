@@ -57,6 +57,9 @@ module _ (rs : List Run) (room : ℕ) where
   pub expand-decides : {answer : Logged} → answer ≡ expandAnswer rs room → Decides (Expandable rs room) (expandConditions rs room) (answer .outcome)
   expand-decides e = subst (Decides (Expandable rs room) (expandConditions rs room)) (sym (said e)) (decides expand-tested)
 
+  pub expand-said : expandAnswer rs room .outcome ≡ expandOutcome rs room
+  expand-said = said refl
+
 -- ---- what is promised
 
 -- where a log is accepted the row holds its answers

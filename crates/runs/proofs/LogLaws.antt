@@ -226,3 +226,28 @@ runs-count b at (c ∷ xs) = go (eqb b c) refl (ap (λ (rs : List Run). length r
 pub runs-needed : (xs : List ℕ) → length (runs xs) ≡ needed xs
 runs-needed [] = refl
 runs-needed (b ∷ xs) = runs-count b 0 xs
+
+-- ---- what fit records expand to can be written
+
+low-append : (n b : ℕ) (ys : List ℕ) → b ≤ 16 → AllLow ys → AllLow (replicate n b ++ ys)
+low-append zero b ys h l = l
+low-append (suc n) b ys h l = (h, low-append n b ys h l)
+
+fit-low : (rs : List Run) (p before sum : ℕ) → unfitFrom (suc p) before sum rs ≡ 0 → AllLow (expand rs)
+fit-low [] p before sum h = tt
+fit-low (r ∷ rs) p before sum h =
+    let f = head-fit p before sum r rs h in
+    low-append (r .length) (r .task) (expand rs) (fit-of before sum r (f .0) .low) (fit-low rs (suc p) (r .task) (sum + r .length) (f .1))
+
+fit-total : (rs : List Run) (p before sum : ℕ) → unfitFrom (suc p) before sum rs ≡ 0 → sum ≤ 60000 → sum + total rs ≤ 60000
+fit-total [] p before sum h l = omega (arith, l)
+fit-total (r ∷ rs) p before sum h l =
+    let f = head-fit p before sum r rs h in
+    let ih = fit-total rs (suc p) (r .task) (sum + r .length) (f .1) (fit-of before sum r (f .0) .short) in
+    omega (arith, ih)
+
+pub expand-low : (rs : List Run) → firstUnfit rs ≡ 0 → AllLow (expand rs)
+expand-low rs fit = fit-low rs 0 17 0 fit
+
+pub expand-few : (rs : List Run) → firstUnfit rs ≡ 0 → length (expand rs) ≤ 60000
+expand-few rs fit = let t = fit-total rs 0 17 0 fit (omega arith) in let l = length-expand rs in omega (arith, t, l)
