@@ -13,7 +13,8 @@ use Rattle.runs.proofs.RunLaws.{expand-runs, total-runs}
 use Rattle.runs.proofs.FitLaws.{runs-all-fit}
 use Rattle.runs.proofs.LogLaws.{runs-needed, runs-expand, expand-low, expand-few}
 use Rattle.recording.specs.Tests.{writeOutcome, writeAnswer, logAfter}
-use Rattle.recording.proofs.PromiseLaws.{write-decides, writes, writable, write-accepts, write-said, all-low, low-entry, log-accepted, log-front}
+use Rattle.recording.proofs.WriteLaws.{log-accepted}
+use Rattle.recording.proofs.PromiseLaws.{write-decides, writes, writable, write-accepts, write-said, all-low, low-entry, log-front}
 use Rattle.replay.specs.Tests.{expandOutcome, expandAnswer, rowAfter}
 use Rattle.replay.proofs.PaintLaws.{expand-accepted, expand-accepts}
 use Rattle.replay.proofs.PromiseLaws.{expand-decides, expands, expand-said, row-accepted}

@@ -22,11 +22,11 @@ use Rattle.runs.specs.Runs.{run, runs}
 use Rattle.runs.specs.Log.{runAt, needed, LogOf}
 use Rattle.runs.proofs.FitLaws.{AllLow}
 use Rattle.runs.proofs.LogLaws.{runs-log, runs-needed}
-use Rattle.runs.proofs.LentLaws.{logged-outcome, exit-accepted, exit-refused, behind, as-long}
+use Rattle.runs.proofs.LentLaws.{logged-outcome, behind, as-long}
 use Rattle.recording.specs.Tests.{aboveAt, answersTest, writeOutcome, writeAnswer, logAfter}
 use Rattle.recording.specs.Limits.{Writable, writeConditions}
 use Rattle.recording.specs.Promise.{Writes}
-use Rattle.recording.proofs.WriteLaws.{write-accepted, count-accepted, count-refused}
+use Rattle.recording.proofs.WriteLaws.{count-accepted, count-refused, log-accepted, log-refused}
 
 -- ---- refusals
 
@@ -79,11 +79,7 @@ low-entry [] l k h = absurd (omega (arith, h))
 low-entry (b ∷ xs) l zero h = l .0
 low-entry (b ∷ xs) l (suc k) h = low-entry xs (l .1) k (omega (arith, h))
 
--- the row where the answers are accepted, and its front
-pub log-accepted : (xs : List ℕ) (before : List Run) → writeOutcome xs (length before) ≡ Accepted → logAfter xs before ≡ runs xs ++ drop (length (runs xs)) before
-unfolding logAfter
-log-accepted xs before e = exit-accepted before (writeOutcome xs (length before)) (runs xs) e
-
+-- the front of the row where the answers are accepted
 pub log-front : (xs : List ℕ) (before : List Run) → writeOutcome xs (length before) ≡ Accepted → take (writeAnswer xs (length before) .count) (logAfter xs before) ≡ runs xs
 log-front xs before e =
     ap (λ (n : ℕ). take n (logAfter xs before)) (count-accepted xs (length before) e) ∙ ap (take (length (runs xs))) (log-accepted xs before e)
@@ -123,8 +119,7 @@ module _ (xs : List ℕ) (before : List Run) {answer : Logged} {after : List Run
     none = counts ∙ count-refused xs (length before) c e
 
     kept : after ≡ before
-    unfolding logAfter
-    kept = eo ∙ exit-refused before (writeOutcome xs (length before)) (runs xs) c e
+    kept = eo ∙ log-refused xs before c e
 
   accepted : numberIn (answer .outcome) ≡ 0 → writeOutcome xs (length before) ≡ Accepted
   accepted z = sym (said xs (length before) ea) ∙ no-number (answer .outcome) z

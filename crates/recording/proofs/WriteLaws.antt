@@ -18,7 +18,8 @@ use Rattle.refusal.proofs.TestLaws.{then-accepted, refuseAt-accepted, refuseIf-
 use Rattle.runs.specs.declared.Run.{Run}
 use Rattle.runs.specs.declared.Logged.{Logged}
 use Rattle.runs.specs.Runs.{run, runs, runsFrom, lead}
-use Rattle.runs.specs.Lent.{loggedBy, exitBy}
+use Rattle.runs.specs.Lent.{loggedBy}
+use Rattle.runs.proofs.LentLaws.{exit-accepted, exit-refused}
 use Rattle.recording.specs.Tests.{aboveAt, answersTest, writeOutcome, writeAnswer, logAfter}
 use Rattle.recording.proofs.PassLaws.{Ends, pass-run, none-left}
 
@@ -74,12 +75,22 @@ filled-step rs k ys r h g e =
     let last : take (suc k) rs ≡ take k rs ++ (r ∷ []) = take-suc rs k r h ∙ ap (λ (z : Run). take k rs ++ (z ∷ [])) (sym e) in
     rw (one, last, drop-cons ys k r g, append-assoc) (set-at (take k rs) (getD ys k r) (drop (suc k) ys) r k (length-take-le k rs (omega (arith, h))))
 
+-- the row at exit, by the outcome
+pub log-accepted : (xs : List ℕ) (before : List Run) → writeOutcome xs (length before) ≡ Accepted → logAfter xs before ≡ runs xs ++ drop (length (runs xs)) before
+unfolding logAfter
+log-accepted xs before e = exit-accepted before (writeOutcome xs (length before)) (runs xs) e
+
+pub log-refused : (xs : List ℕ) (before : List Run) (c : Cause) → writeOutcome xs (length before) ≡ Refused c → logAfter xs before ≡ before
+unfolding logAfter
+log-refused xs before c e = exit-refused before (writeOutcome xs (length before)) (runs xs) c e
+
 pub log-filled : (xs : List ℕ) (ys : List Run) → filled (runs xs) (writeAnswer xs (length ys) .count) ys ≡ logAfter xs ys
-unfolding logAfter exitBy byOutcome
 log-filled xs ys =
     ⊎-elim
-    (λ (e : writeOutcome xs (length ys) ≡ Accepted). rw (count-accepted xs (length ys) e, e, take-length (runs xs)))
-    (λ (e : (c : Cause) × (writeOutcome xs (length ys) ≡ Refused c)). rw (count-refused xs (length ys) (e .0) (e .1), e .1))
+    (λ (e : writeOutcome xs (length ys) ≡ Accepted).
+      ap (λ (n : ℕ). filled (runs xs) n ys) (count-accepted xs (length ys) e) ∙ ap (λ (rs : List Run). rs ++ drop (length (runs xs)) ys) (take-length (runs xs)) ∙ sym (log-accepted xs ys e))
+    (λ (e : (c : Cause) × (writeOutcome xs (length ys) ≡ Refused c)).
+      ap (λ (n : ℕ). filled (runs xs) n ys) (count-refused xs (length ys) (e .0) (e .1)) ∙ sym (log-refused xs ys (e .0) (e .1)))
     (outcome-cases (writeOutcome xs (length ys)))
 
 -- ---- the answers that k records have passed

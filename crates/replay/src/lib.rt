@@ -34,7 +34,7 @@ fn is_unfit(before: u32, sum: u32, r: Run) -> bool
     requires { ⌜ sum ≤ 60000 ⌝ }
     ensures { λ b. ⌜ b ≡ unfit before sum r ⌝ }
 {
-    if 16 < r.task {
+    if r.task > 16 {
         return true;
     }
     if r.task == before {
