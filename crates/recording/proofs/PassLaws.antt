@@ -1,12 +1,11 @@
 -- How the loops over answers follow the runs.
-use mathlib.Core.Path.{_≡_, sym, _∙_, ap}
+use mathlib.Core.Path.{_≡_, sym, _∙_}
 use mathlib.Core.List.{List, _∷_}
 use Prim.Native.Nat.{ℕ, suc, _+_, _-_, _<_, _≤_}
 use native.Mathlib.Numerals.{add-one}
 use native.Mathlib.Omega.{arith}
 use lib.ListN.{length, getD, drop, length-drop, drop-of-length-le}
 use lib.Seq.{drop-cons}
-use Rattle.runs.specs.declared.Run.{Run}
 use Rattle.runs.specs.Runs.{run, runsFrom, lead}
 use Rattle.runs.proofs.RunLaws.{lead-le, lead-same, lead-other, runs-at}
 
@@ -35,9 +34,6 @@ pass-run xs at end h e =
     let len : suc (lead (getD xs at 0) (drop (suc at) xs)) ≡ end - at = (let e′ = rw add-one at e in omega (arith, e′)) in
     let nxt : suc at + lead (getD xs at 0) (drop (suc at) xs) ≡ end = (let e′ = rw add-one at e in sym e′) in
     runs-at xs at h ∙ rw (len, nxt)
-
-pub pass-count : (xs : List ℕ) (at end : ℕ) → at < length xs → Ends xs at end → length (runsFrom at (drop at xs)) ≡ suc (length (runsFrom end (drop end xs)))
-pass-count xs at end h e = ap (λ (rs : List Run). length rs) (pass-run xs at end h e)
 
 pub none-left : (xs : List ℕ) (at : ℕ) → length xs ≤ at → length (runsFrom at (drop at xs)) ≡ 0
 none-left xs at h = rw (drop-of-length-le xs h)

@@ -88,9 +88,9 @@ pub log-filled : (xs : List ℕ) (ys : List Run) → filled (runs xs) (writeAnsw
 log-filled xs ys =
     ⊎-elim
     (λ (e : writeOutcome xs (length ys) ≡ Accepted).
-      ap (λ (n : ℕ). filled (runs xs) n ys) (count-accepted xs (length ys) e) ∙ ap (λ (rs : List Run). rs ++ drop (length (runs xs)) ys) (take-length (runs xs)) ∙ sym (log-accepted xs ys e))
+    ap (λ (n : ℕ). filled (runs xs) n ys) (count-accepted xs (length ys) e) ∙ ap (λ (rs : List Run). rs ++ drop (length (runs xs)) ys) (take-length (runs xs)) ∙ sym (log-accepted xs ys e))
     (λ (e : (c : Cause) × (writeOutcome xs (length ys) ≡ Refused c)).
-      ap (λ (n : ℕ). filled (runs xs) n ys) (count-refused xs (length ys) (e .0) (e .1)) ∙ sym (log-refused xs ys (e .0) (e .1)))
+    ap (λ (n : ℕ). filled (runs xs) n ys) (count-refused xs (length ys) (e .0) (e .1)) ∙ sym (log-refused xs ys (e .0) (e .1)))
     (outcome-cases (writeOutcome xs (length ys)))
 
 -- ---- the answers that k records have passed

@@ -1,5 +1,6 @@
 -- Writing a log: its tests in order, its answer, and every record of the row that was lent.
 use Prim.Native.Nat.{ℕ}
+use mathlib.Core.Path.{_≡_}
 use mathlib.Core.Bool.{Bool}
 use mathlib.Core.List.{List}
 use lib.Dec.{ltb}
@@ -33,3 +34,7 @@ writeAnswer answers room = loggedBy (writeOutcome answers room) (length (runs an
 -- every record of the row at exit: the log in front of what stands behind it, or all as it was
 unfoldable pub logAfter : List ℕ → List Run → List Run
 logAfter answers records = exitBy records (writeOutcome answers (length records)) (runs answers)
+
+-- what one pass over the answers finds: the first above 16, or 0 and how many records are needed
+abbrev pub Surveyed : List ℕ → ℕ → ℕ → Type 0
+Surveyed answers above needed = (above ≡ first (aboveAt answers) (length answers)) × (above ≡ 0 → needed ≡ length (runs answers))

@@ -2,9 +2,8 @@
 ghost use mathlib.Core.Path.{_≡_};
 ghost use Prim.Native.Nat.{_<_, _≤_, _+_};
 ghost use lib.ListN.{length, drop, getD};
-ghost use Rattle.numbers.specs.First.{first};
-ghost use Rattle.runs.specs.Runs.{runs, lead};
-ghost use Rattle.recording.specs.Tests.{aboveAt, answersTest, writeAnswer};
+ghost use Rattle.runs.specs.Runs.{lead};
+ghost use Rattle.recording.specs.Tests.{Surveyed, writeAnswer};
 use refusal::Cause;
 use refusal::Outcome;
 use runs::Logged;
@@ -13,18 +12,37 @@ use runs::Run;
 // The most answers that a log holds.
 pub const MOST: usize = 60000;
 
-// The first answer above 16, from 1; 0 if there is none.
-fn first_above(answers: &[u8]) -> usize
-    ensures { λ r. ⌜ r ≡ first (aboveAt (now (answers .entry))) (length (now (answers .entry))) ⌝ }
+// What one pass over the answers finds: the first above 16, from 1, or 0 for none; and then how many records they need.
+struct Survey {
+    above: usize,
+    needed: usize,
+}
+
+// The run counter: one pass that stops at an answer above 16.
+fn look_through(answers: &[u8]) -> Survey
+    ensures { λ r. ⌜ Surveyed (now (answers .entry)) (r .above) (r .needed) ⌝ }
 {
-    let mut k = 0;
+    let mut needed: usize = 0;
+    let mut before: u8 = 17;
+    let mut k: usize = 0;
     while k < answers.len() {
-        if 16 < answers[k] {
-            return k + 1;
+        let task = answers[k];
+        if 16 < task {
+            return Survey {
+                above: k + 1,
+                needed: 0,
+            };
         }
+        if task != before {
+            needed += 1;
+        }
+        before = task;
         k += 1;
     }
-    0
+    Survey {
+        above: 0,
+        needed: needed,
+    }
 }
 
 // Where the run that begins at `at` ends: the tick after its last.
@@ -43,44 +61,19 @@ pub fn run_end(answers: &[u8], at: usize) -> usize
     end
 }
 
-// The run counter: how many records the answers need.
-fn count_runs(answers: &[u8]) -> usize
-    ensures { λ r. ⌜ r ≡ length (runs (now (answers .entry))) ⌝ }
-{
-    let mut at: usize = 0;
-    let mut n: usize = 0;
-    while at < answers.len() {
-        at = run_end(answers, at);
-        n += 1;
-    }
-    n
-}
-
-// Number 23: too many answers, or else one above 16.
-fn answers_test(answers: &[u8]) -> Outcome
-    ensures { λ r. ⌜ r ≡ answersTest (now (answers .entry)) ⌝ }
-{
-    let long = refusal::refuse_if(MOST < answers.len(), Cause::Answer(0));
-    match long {
-        Outcome::Refused(_) => long,
-        Outcome::Accepted => {
-            let answer = first_above(answers);
-            refusal::refuse_if(answer != 0, Cause::Answer(answer))
-        }
-    }
-}
-
-// The answer for a row of `room` records: number 23, then 24, or how many records are needed.
+// The answer for a row of `room` records: number 23 for too many answers, or else for one above 16, then 24, or how many records are needed.
 pub fn write_answer(answers: &[u8], room: usize) -> Logged
     ensures { λ r. ⌜ r ≡ writeAnswer (now (answers .entry)) room ⌝ }
 {
-    let before = answers_test(answers);
-    match before {
-        Outcome::Refused(_) => runs::answer(before, 0),
+    let long = refusal::refuse_if(MOST < answers.len(), Cause::Answer(0));
+    match long {
+        Outcome::Refused(_) => runs::answer(long, 0),
         Outcome::Accepted => {
-            let needed = count_runs(answers);
-            let fits = refusal::room_test(Cause::LogRoom, needed, room);
-            runs::answer(fits, needed)
+            let found = look_through(answers);
+            let above = refusal::refuse_if(found.above != 0, Cause::Answer(found.above));
+            let fits = refusal::room_test(Cause::LogRoom, found.needed, room);
+            let outcome = refusal::then(above, fits);
+            runs::answer(outcome, found.needed)
         }
     }
 }
