@@ -10,6 +10,7 @@ from plans import ALL, SHORT, SPENT, USUAL_LIMIT, plan
 from printed import (bus_report, exact_report, moved_back, moved_to_new, order_report,
                      quick_report)
 from quick_plans import quick_plan
+from runlog import Run, expand_log, write_log
 from setups import move_back, move_to_new, read_setup, write_setup
 from tables import Refusal, every_core, read_board, read_table
 from ticks import EMPTY, Record, Slot, fresh_core, run_core, tick
@@ -96,6 +97,23 @@ def written(*changed, out=bytes(31)):
     for at, field in changed:
         fields[at] = field
     return write_setup(*fields[:5], bytes(fields[5]), out)
+
+
+def logged(answers, room):
+    """What the writer answers to these answers and a row of so many records: number, place and the
+    records needed; then those that were written."""
+    lent = [Run(9, 9, 9)] * room
+    number, place, needed, after = write_log(bytes(answers), lent)
+    assert after[needed:] == lent[needed:]
+    return number, place, needed, [tuple(run) for run in after[:needed]]
+
+
+def spread(records, length):
+    """What the expander answers to these records and a row of so many bytes: number and place, or
+    the bytes."""
+    number, place, count, after = expand_log([Run(*record) for record in records], b"\x09" * length)
+    assert count == (0 if number else length) and (number == 0 or after == b"\x09" * length)
+    return (number, place) if number else list(after)
 
 
 # The listing's table in both forms, byte by byte; and two tied tasks and one that may use either
@@ -379,6 +397,36 @@ ROWS = {
     "tied, bus": [bus_report(tied(charge)) == exact_report(tied(charge)) for charge in (0, 1, 5, 6)]
                  == [True] * 4
                  and bus_report(tied(1, 8, 30)) == (b"refused 22 2\n", b""),
+    # Of the run log.
+    "1 1 2 1": logged([1, 1, 2, 1], 3) == (0, 0, 3, [(1, 0, 2), (2, 2, 1), (1, 3, 1)])
+               and logged([1, 1, 2, 1], 7) == logged([1, 1, 2, 1], 3)
+               and spread([(1, 0, 2), (2, 2, 1), (1, 3, 1)], 4) == [1, 1, 2, 1],
+    "no answers": logged([], 0) == logged([], 2) == (0, 0, 0, []) and spread([], 0) == [],
+    "task 0": logged([0, 0, 16], 2) == (0, 0, 2, [(0, 0, 2), (16, 2, 1)])
+              and spread([(0, 0, 2), (16, 2, 1)], 3) == [0, 0, 16],
+    "23": [logged(answers, 9) for answers in ([17], [16, 255, 17], [0] * 59_999 + [17])]
+          == [(23, place, 0, []) for place in (1, 2, 60_000)],
+    "23, too many": [logged([1] * count, 1)[:2] for count in (60_000, 60_001)]
+                    == [(0, 0), (23, 0)] and logged([17] * 60_001, 1)[:2] == (23, 0),
+    "24": [logged([1, 1, 2, 1], room)[:3] for room in (0, 2)] == [(24, 0, 0)] * 2
+          and logged([5], 0)[:3] == (24, 0, 0),
+    "23 before 24": logged([1, 2, 17], 0)[:2] == (23, 3) and logged([1] * 60_001, 0)[:2] == (23, 0),
+    "wrapping sum": spread([(1, 0, 2), (2, 2, 4_294_967_294)], 0) == (25, 2)
+                    and spread([(1, 0, 2), (2, 2, 4_294_967_294), (3, 0, 1)], 1) == (25, 2),
+    "unfit task": [spread([(1, 0, 1), (task, 1, 1)], 2) for task in (17, 256, 257, 2**32 - 1, 1)]
+                  == [(25, 2)] * 5 and spread([(1, 0, 1), (16, 1, 1)], 2) == [1, 16],
+    "before the first": [spread([(task, 0, 1)], 1) for task in (0, 16, 17)] == [[0], [16], (25, 1)],
+    "unfit length": spread([(1, 0, 0)], 0) == (25, 1)
+                    and spread([(1, 0, 2), (2, 2, 0), (1, 2, 1)], 3) == (25, 2),
+    "unfit tick": [spread([(1, 0, 2), (2, first, 1)], 3) for first in (1, 2, 3, 258)]
+                  == [(25, 2), [1, 1, 2], (25, 2), (25, 2)] and spread([(1, 1, 1)], 1) == (25, 1),
+    "unfit sum": spread([(1, 0, 60_000), (2, 60_000, 1)], 60_001) == (25, 2)
+                 and spread([(1, 0, 60_001)], 60_001) == (25, 1)
+                 and spread([(1, 0, 1), (2, 1, 59_999)], 60_000) == [1] + [2] * 59_999,
+    "first unfit": spread([(1, 0, 1), (2, 1, 0), (17, 1, 1)], 2) == (25, 2)
+                   and spread([(1, 0, 1), (2, 1, 1), (17, 2, 1)], 0) == (25, 3),
+    "row of another length": [spread([(1, 0, 2), (2, 2, 1)], length) for length in (0, 2, 3, 4)]
+                             == [(25, 0), (25, 0), [1, 1, 2], (25, 0)] and spread([], 1) == (25, 0),
 }
 
 if __name__ == "__main__":
