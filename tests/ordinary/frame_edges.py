@@ -8,23 +8,28 @@ import subprocess
 import sys
 
 import frame
-from calls import (ceiling, core, dependencies, plan, plan_bus, quick, read, read_bus, read_setup,
-                   tick, to_new, to_old, write_setup)
+from calls import (ceiling, core, dependencies, expand_log, plan, plan_bus, quick, read, read_bus,
+                   read_setup, tick, to_new, to_old, write_log, write_setup)
 from dependency_samples import list_of
+from log_samples import light, log_of
 from samples import LARGEST_WORD, setup_of, table_of
 from ticks import EMPTY, Record, Slot
 
 LONGEST = 1024
+LONGEST_ROW = 65_535
+MOST_RECORDS = 60_000
 FULL = [LARGEST_WORD] * 16
 ROW_C = table_of(1, [2, 3, 6], [1, 1, 1])
 FOUR_EIGHT = table_of(2, [4, 8], [1, 3])
 SETUP = setup_of(2, 0, [4, 8], [1, 3], [3, 3])
 UNLISTED = setup_of(2, 0, [4, 12], [1, 3], [3, 3])
 FIELDS = 1, 2, 1, [4] * 16, [1] * 16, bytes([3] * 16)
+LOG = log_of((1, 2), (0, 1))
 
 # A small input of each call, of a fresh core one accepted, one refused and one without a tick; of
 # the writer and the moves one with an output that is too short; of the dependency check one with a
-# circle and one without a list; of the drive-bus profile one with a period that is not in its list.
+# circle and one without a list; of the drive-bus profile one with a period that is not in its list;
+# of the run log one with too short a row, and one without records.
 SMALL = [
     (read, (ROW_C,)),
     (plan, (table_of(2, [10] * 3, [7, 6, 4]), 1, bytes([1, 1, 2]), 6)),
@@ -48,13 +53,20 @@ SMALL = [
     (read_bus, (UNLISTED,)),
     (plan_bus, (SETUP, 6)),
     (plan_bus, (UNLISTED, 6)),
+    (write_log, (bytes([1, 1, 0]), LOG)),
+    (write_log, (bytes([1, 0, 1]), LOG)),
+    (write_log, (b"", [])),
+    (expand_log, (LOG, bytes(3))),
+    (expand_log, (LOG, b"")),
+    (expand_log, ([], b"")),
 ]
 GOOD = frame.case(read.CODE, [ROW_C])
 
 
 def main():
     program = sys.argv[1]
-    inputs = [*cut_short(), *unknown_codes(), *wrong_lengths(), fewer_ticks_than_counted()]
+    inputs = [*cut_short(), *unknown_codes(), *wrong_lengths(), *wrong_counts(), *longest_blocks(),
+              fewer_ticks_than_counted()]
     for data, expected in inputs:
         run = subprocess.run([program], input=data, capture_output=True, check=False)
         if run.returncode < 0 or run.stdout.decode() != expected:
@@ -89,20 +101,44 @@ def unknown_codes():
 
 
 def wrong_lengths():
-    """Each block of each small input with another length, followed by a case that is not reached;
-    and the longest block that a table, a row of core bytes, a placement, an output or a list may
-    have."""
+    """Each block of each small input with another length, followed by a case that is not reached."""
     for call, given in SMALL:
         contents = call.contents(*given)
         for k, content in enumerate(contents):
-            wrong = [bytes(LONGEST + 1), bytes(65_535)]
-            if k not in call.FREE:
-                wrong += [content + b"\0", content[:-1], b"", content + bytes(256)]
-            for other in wrong:
+            for other in wrong_blocks(call, k, content):
                 data = frame.case(call.CODE, contents[:k] + [other] + contents[k + 1:])
                 yield data + GOOD, standing(call, given, k)
+
+
+def wrong_blocks(call, k, content):
+    """Contents that block k of a call may not have. Records may be any up to a number of them, but
+    none in part."""
+    if isinstance(content, frame.Records):
+        lengths = [1, 4, 11, 13, 20, 12 * MOST_RECORDS + 1, 12 * MOST_RECORDS + 12]
+        return [frame.Records(bytes(length)) for length in lengths]
+    if k in getattr(call, "LONG", ()):
+        return []
+    wrong = [bytes(LONGEST + 1), bytes(65_535)]
+    if k not in call.FREE:
+        wrong += [content + b"\0", content[:-1], b"", content + bytes(256)]
+    return wrong
+
+
+def wrong_counts():
+    """Two records behind a length of which the low bytes alone would be theirs, or that is above
+    what there may be."""
+    rest = frame.records(LOG) + GOOD + GOOD
+    for length in (15 * 65_536 + 24, 3 * 2**24 + 24, LARGEST_WORD - 3):
+        for head in (frame.case(write_log.CODE, [bytes([1, 1, 0])]), bytes([expand_log.CODE])):
+            yield head + frame.number(length) + rest, ""
+
+
+def longest_blocks():
+    """The longest block that a table, a row of core bytes, a placement, an output, a list, a row of
+    answers or of records may have."""
     longest, row = bytes([16, 4]) + bytes(LONGEST - 2), bytes(LONGEST)
     setup = bytes([0, 16, 4]) + bytes(LONGEST - 3)
+    answers, most = light(LONGEST_ROW), log_of(*((k % 2, 1) for k in range(MOST_RECORDS)))
     for call, given in ((read, (longest,)), (plan, (longest, 9, row, 0)),
                         (plan, (FOUR_EIGHT, 1, row, 0)), (core, (longest, 9, row, row, 1, [])),
                         (core, (FOUR_EIGHT, 1, bytes([1, 3]), row, 1, [])),
@@ -111,7 +147,10 @@ def wrong_lengths():
                         (to_new, (longest, row)), (to_new, (FOUR_EIGHT, row)),
                         (to_old, (setup, row)), (to_old, (SETUP, row)),
                         (dependencies, (setup, row)), (dependencies, (SETUP, row)),
-                        (read_bus, (setup,)), (plan_bus, (setup, 0))):
+                        (read_bus, (setup,)), (plan_bus, (setup, 0)),
+                        (write_log, (answers, LOG)), (write_log, (answers[:60_000], most)),
+                        (write_log, (b"", most)), (expand_log, (LOG, answers)),
+                        (expand_log, (most, answers[:60_000])), (expand_log, (most, answers))):
         yield frame.case(call.CODE, call.contents(*given)) + GOOD, (
             standing(call, given, call.HEAD) + standing(read, (ROW_C,), 1))
 
