@@ -37,7 +37,7 @@ static inline double fastest(const double *times, size_t count)
     return least;
 }
 
-static void put_word(uint8_t *at, uint32_t word)
+static inline void put_word(uint8_t *at, uint32_t word)
 {
     for (int k = 0; k < 4; k++)
         at[k] = (uint8_t)(word >> (8 * k));
