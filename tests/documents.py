@@ -1,4 +1,4 @@
-"""Holds the documents to what they show: the C program is the one that is compiled, every block of
+"""Holds the documents to what they show: every C program is one that is compiled, every block of
 Rattle stands in a crate's code, and every command that is shown with its output prints that.
 
 usage: python3 tests/documents.py
@@ -11,7 +11,7 @@ from glob import glob
 from os.path import abspath, dirname, join, relpath
 
 ROOT = dirname(dirname(abspath(__file__)))
-SNIPPET = join(ROOT, "tests", "firmware", "snippet.c")
+SNIPPETS = join(ROOT, "tests", "firmware", "*snippet.c")
 DOCUMENTS = ["README.md", "docs/*.md", "examples/README.md", "tests/README.md", "bench/README.md"]
 FENCE = re.compile(r"^```([^\n]*)\n(.*?)^```$", re.M | re.S)
 INDENTED = re.compile(r"(?:^    .*\n)(?:^(?:    .*)?\n)*", re.M)
@@ -20,6 +20,8 @@ RATTLE = re.compile(r"^ *(?:let |pub fn |fn |pub struct |pub enum )", re.M)
 
 def main():
     documents = [path for pattern in DOCUMENTS for path in sorted(glob(join(ROOT, pattern)))]
+    snippets = {content(path) for path in glob(SNIPPETS)}
+    shown = set()
     code = [lines(content(path)) for path in glob(join(ROOT, "crates", "*", "src", "*.rt"))]
     counts = [0, 0, 0]
     for path in documents:
@@ -28,15 +30,17 @@ def main():
         plain = [("", block) for block in INDENTED.findall(FENCE.sub("", text))]
         for info, block in blocks + plain:
             if info == "c":
-                must(block == content(SNIPPET), name, block, "snippet.c has")
+                must(block in snippets, name, block, "a snippet.c has")
+                shown.add(block)
                 counts[0] += 1
             elif info == "rust" or not info and RATTLE.search(block):
                 must(any(within(lines(block), file) for file in code), name, block, "a crate has")
                 counts[1] += 1
             elif not info:
                 counts[2] += commands(name, block)
+    must(shown == snippets, "documents", "".join(snippets - shown), "is shown")
     must(all(counts), "documents", "no C program, block of Rattle or command", "are found")
-    print(f"{counts[0]} C program, {counts[1]} blocks of Rattle, {counts[2]} commands")
+    print(f"{counts[0]} C programs, {counts[1]} blocks of Rattle, {counts[2]} commands")
 
 
 def commands(name, block):
