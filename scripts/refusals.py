@@ -320,4 +320,7 @@ CAUSES = {
     20: ("a pair that does not fit", pair),
     21: ("tasks that feed each other in a circle", circle),
     22: ("a period that the drive bus does not have", bus_period),
+    23: ("over 60,000 tick answers, or one above 16", nothing),
+    24: ("fewer records than the answers need", nothing),
+    25: ("a record that does not fit, or a row of another length", nothing),
 }
