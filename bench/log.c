@@ -112,7 +112,7 @@ static size_t measure(const char *name, int expanding, size_t count)
             exit(1);
         }
     const double plain = fastest(rounds[PLAIN], ROUNDS), tested = fastest(rounds[TESTED], ROUNDS);
-    printf("%-10s %-24s %8zu %8.1f %10.1f %8.2f\n", expanding ? "expanding" : "writing", name,
+    printf("%-10s %-24s %8zu %8.2f %10.2f %8.2f\n", expanding ? "expanding" : "writing", name,
            expanding ? count : found, plain * 1e6, tested * 1e6, plain / tested);
     return found;
 }
