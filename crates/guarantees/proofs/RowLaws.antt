@@ -59,11 +59,12 @@ use Rattle.feedsreport.specs.Output.{orderLine, orderOutputOf, feedsOutputOf}
 use Rattle.runs.specs.Lent.{loggedBy, exitBy as exitLogged}
 use Rattle.recording.specs.Tests.{aboveAt as aboveTask, answersTest, writeOutcome, writeAnswer, logAfter}
 use Rattle.replay.specs.Tests.{expandOutcome, expandAnswer, rowAfter}
+use Rattle.logwords.specs.Words.{wordsAfter}
 use Rattle.guarantees.specs.Rows.{logs, drives, feeds, moves, newTables, ties, charges, emptyCores, quicks, more, rows, AllHold, WorkedRows}
 
 -- every definition that a row computes by, under one name
 unfoldable opened : ℕ
-unfolding loggedBy exitLogged aboveTask answersTest writeOutcome writeAnswer logAfter expandOutcome expandAnswer rowAfter byOutcome beside new shapeOutcome startFor ceilingFor refusedCeiling first firstFrom row tab upTo sumOver sumTo productTo euclid gcd lcm lcms insert sorted position scatter demandOn _then_ refuseIf refuseAt inOrder wordAt byteAt oldBytes newBytes fieldsOutcome otherByte besideFields newFields newShape newOutcome lowestPermitted noTasks refusedReading multipleTo hyperperiodOf demandOf badPeriod badBudget badCost exceeds taskSetOf acceptedReading readingBy readingOf precedes twins isEmpty someEmptyTwin tried xor permitted permittedCount allowed unfit everyCore everyAffinity badAffinity barredAt someTied factorFor sumOfProducts upFrom choices stepInto storedAfter boundAfter entered tryAll visit trace stored answer tableAnswer tableProblem orderOf verdictOf allocationOf planFor refusedPlan planBy planOf verdictOutcome slotTest firstSlot owedFor release releaseAll chosen advanceAll stepped refusedTick tick freshSlot freshSlots aboveAt refusedStart startBy placingOutcome startOf front digitsBy decimal field refusalLine sizesLine taskLine taskLines tableLines verdictWord summaryLine planLines printed outputOf lowestFit fitFrom firstFit tableFit quickPlacement quickFor refusedQuick quickBy quickOf stepCeiling ceilingBy ceilingOf quickSummary quickLines quickOutputOf formOutcome oldOutcome alone transferBy exitBy transferAfter exitAfter written returned loadOn through reach circular stands holdsUp waits isReady nextTask withNext ordered feeding fed malformed multiple periodOf saidBy feedsOf unfitOf unfitAt refusedOrder orderFor orderBy taskOrderOf joined noCount tooFew splitAt tableIn listIn orderLine orderOutputOf feedsOutputOf isEntry busPlace unlisted busOutcome bus
+unfolding wordsAfter loggedBy exitLogged aboveTask answersTest writeOutcome writeAnswer logAfter expandOutcome expandAnswer rowAfter byOutcome beside new shapeOutcome startFor ceilingFor refusedCeiling first firstFrom row tab upTo sumOver sumTo productTo euclid gcd lcm lcms insert sorted position scatter demandOn _then_ refuseIf refuseAt inOrder wordAt byteAt oldBytes newBytes fieldsOutcome otherByte besideFields newFields newShape newOutcome lowestPermitted noTasks refusedReading multipleTo hyperperiodOf demandOf badPeriod badBudget badCost exceeds taskSetOf acceptedReading readingBy readingOf precedes twins isEmpty someEmptyTwin tried xor permitted permittedCount allowed unfit everyCore everyAffinity badAffinity barredAt someTied factorFor sumOfProducts upFrom choices stepInto storedAfter boundAfter entered tryAll visit trace stored answer tableAnswer tableProblem orderOf verdictOf allocationOf planFor refusedPlan planBy planOf verdictOutcome slotTest firstSlot owedFor release releaseAll chosen advanceAll stepped refusedTick tick freshSlot freshSlots aboveAt refusedStart startBy placingOutcome startOf front digitsBy decimal field refusalLine sizesLine taskLine taskLines tableLines verdictWord summaryLine planLines printed outputOf lowestFit fitFrom firstFit tableFit quickPlacement quickFor refusedQuick quickBy quickOf stepCeiling ceilingBy ceilingOf quickSummary quickLines quickOutputOf formOutcome oldOutcome alone transferBy exitBy transferAfter exitAfter written returned loadOn through reach circular stands holdsUp waits isReady nextTask withNext ordered feeding fed malformed multiple periodOf saidBy feedsOf unfitOf unfitAt refusedOrder orderFor orderBy taskOrderOf joined noCount tooFew splitAt tableIn listIn orderLine orderOutputOf feedsOutputOf isEntry busPlace unlisted busOutcome bus
 opened = 0
 
 base-hold : AllHold rows
@@ -108,7 +109,7 @@ drives-hold = (((refl, refl), (refl, refl)), (((refl, refl), (refl, refl)), (((r
 
 logs-hold : AllHold logs
 unfolding opened logs
-logs-hold = ((((refl, refl), refl), refl), ((((refl, refl), refl), refl), ((((refl, refl), refl), refl), ((((refl, refl), refl), refl), ((((refl, refl), refl), refl), ((((refl, refl), refl), refl), ((((refl, refl), refl), refl), ((((refl, refl), refl), refl), ((((refl, refl), refl), refl), ((((refl, refl), refl), refl), ((((refl, refl), refl), refl), ((((refl, refl), refl), refl), ((((refl, refl), refl), refl), ((((refl, refl), refl), refl), ((((refl, refl), refl), refl), ((((refl, refl), refl), refl), ((((refl, refl), refl), refl), ((((refl, refl), refl), refl), ((((refl, refl), refl), refl), ((((refl, refl), refl), refl), ((((refl, refl), refl), refl), ((((refl, refl), refl), refl), ((((refl, refl), refl), refl), tt)))))))))))))))))))))))
+logs-hold = ((((refl, refl), refl), refl), ((((refl, refl), refl), refl), ((((refl, refl), refl), refl), ((((refl, refl), refl), refl), ((((refl, refl), refl), refl), ((((refl, refl), refl), refl), ((((refl, refl), refl), refl), ((((refl, refl), refl), refl), ((((refl, refl), refl), refl), ((((refl, refl), refl), refl), ((((refl, refl), refl), refl), ((((refl, refl), refl), refl), ((((refl, refl), refl), refl), ((((refl, refl), refl), refl), ((((refl, refl), refl), refl), ((((refl, refl), refl), refl), ((((refl, refl), refl), refl), ((((refl, refl), refl), refl), ((((refl, refl), refl), refl), ((((refl, refl), refl), refl), ((((refl, refl), refl), refl), ((((refl, refl), refl), refl), ((((refl, refl), refl), refl), (refl, (refl, tt)))))))))))))))))))))))))
 
 pub rows-hold : WorkedRows
 rows-hold = record {

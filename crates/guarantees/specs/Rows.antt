@@ -32,6 +32,7 @@ use Rattle.runs.specs.declared.Logged.{Logged}
 use Rattle.runs.specs.Runs.{run}
 use Rattle.recording.specs.Tests.{writeAnswer, logAfter}
 use Rattle.replay.specs.Tests.{expandAnswer, rowAfter}
+use Rattle.logwords.specs.Words.{wordsAfter}
 use Rattle.edf.specs.declared.Slot.{Slot}
 use Rattle.edf.specs.Slots.{emptySlot}
 use Rattle.edf.specs.Guarantee.{runs}
@@ -70,7 +71,7 @@ outAfter call out = exitOf Buffer (bytesFor call) (tableFor call) out
 -- the refusal of the reader; a stored table's length and the output, or the refusal, which leaves the output; the whole output of the program, and
 -- that of the quick one; the lines of a table and an answer that is given by hand; a dependency list's order, or its refusal, which gives zeros; the
 -- whole output of the program for a table and a list. Of tables for bus drives: the hyperperiod of an accepted one; the refusal of reader and planner; a
--- plan; the whole output of the program. Of the run log, written and expanded: number, place and count, and the row at exit. Last, a row of the calls before these on a board with a charge, and one with core bytes.
+-- plan; the whole output of the program. Of the run log, written and expanded: number, place and count, and the row at exit; the same row as numbers. Last, a row of the calls before these on a board with a charge, and one with core bytes.
 pub data Row : Type 0 where
   frames : List ℕ → ℕ → Row
   plans : List ℕ → ℕ → Verdict → List ℕ → ℕ → ℕ → Row
@@ -98,6 +99,7 @@ pub data Row : Type 0 where
   printsBus : List ℕ → String → Row
   writesLog : List ℕ → List Run → ℕ → ℕ → ℕ → List Run → Row
   expandsLog : List Run → List ℕ → ℕ → ℕ → ℕ → List ℕ → Row
+  writesWords : List ℕ → List ℕ → List ℕ → Row
   charged : ℕ → Row → Row
   tied : List ℕ → Row → Row
 
@@ -140,6 +142,7 @@ Holds charge bytes (writesLog answers before number place count after) =
     (Gives (writeAnswer answers (length before) .outcome) number place × (writeAnswer answers (length before) .count ≡ count)) × (logAfter answers before ≡ after)
 Holds charge bytes (expandsLog records before number place count after) =
     (Gives (expandAnswer records (length before) .outcome) number place × (expandAnswer records (length before) .count ≡ count)) × (rowAfter records before ≡ after)
+Holds charge bytes (writesWords answers before after) = wordsAfter answers before ≡ after
 Holds charge bytes (charged own row) = Holds own bytes row
 Holds charge bytes (tied own row) = Holds charge (λ table. own) row
 
@@ -498,7 +501,8 @@ shortLog = run 1 0 2 ∷ run 2 2 1 ∷ run 1 3 1 ∷ []
 
 -- The run log. Writing: answers into a row that is longer, and one record too short; no answers; one; an answer above 16 beside a row that is too short;
 -- sixteen and none. Expanding: the same log into its bytes, one byte more and one less; no records. Records that are unfit: a sum beyond 32 bits; tasks of
--- 17 and 257; the task of the one before; no length; ticks from 1, and with a gap; one tick above 60,000 at once, and after others; a fit record of 60,000.
+-- 17 and 257; the task of the one before; no length; ticks from 1, and with a gap; one tick above 60,000 at once, and after others; a fit record of 60,000. Rows of numbers: two records
+-- of three, and what stands behind; one of two too few.
 unfoldable pub logs : List Row
 logs =
     writesLog (1 ∷ 1 ∷ 2 ∷ 1 ∷ []) untouched 0 0 3 (run 1 0 2 ∷ run 2 2 1 ∷ run 1 3 1 ∷ run 6 6 6 ∷ [])
@@ -524,6 +528,8 @@ logs =
     ∷ expandsLog (run 1 0 60001 ∷ []) [] 25 1 0 []
     ∷ expandsLog (run 1 0 59999 ∷ run 2 59999 1 ∷ run 3 60000 1 ∷ []) [] 25 3 0 []
     ∷ expandsLog (run 1 0 60000 ∷ []) [] 25 0 0 []
+    ∷ writesWords (1 ∷ 1 ∷ 2 ∷ []) (9 ∷ 9 ∷ 9 ∷ 9 ∷ 9 ∷ 9 ∷ 8 ∷ 8 ∷ 8 ∷ 7 ∷ 7 ∷ []) (1 ∷ 0 ∷ 2 ∷ 2 ∷ 2 ∷ 1 ∷ 8 ∷ 8 ∷ 8 ∷ 7 ∷ 7 ∷ [])
+    ∷ writesWords (1 ∷ 1 ∷ 2 ∷ []) (9 ∷ 9 ∷ 9 ∷ 9 ∷ 9 ∷ []) (9 ∷ 9 ∷ 9 ∷ 9 ∷ 9 ∷ [])
     ∷ []
 
 -- rows a to i and k; where the paper gives no limit it is 1,000,000
