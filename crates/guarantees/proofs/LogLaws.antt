@@ -1,7 +1,7 @@
 -- The run log keeps what is demanded of it.
 use Prim.Native.Nat.{ℕ, _≤_}
-use mathlib.Core.Path.{_≡_, refl, sym, _∙_, ap, subst}
-use mathlib.Core.List.{List, [], _++_, append-nil}
+use mathlib.Core.Path.{_≡_, refl, sym, _∙_, ap}
+use mathlib.Core.List.{List, _++_, append-nil}
 use native.Mathlib.Omega.{arith}
 use lib.ListN.{length, drop, drop-of-length-le}
 use Rattle.refusal.specs.Causes.{numberIn}
@@ -12,10 +12,10 @@ use Rattle.runs.specs.Runs.{runs, expand}
 use Rattle.runs.proofs.RunLaws.{expand-runs, total-runs}
 use Rattle.runs.proofs.FitLaws.{runs-all-fit}
 use Rattle.runs.proofs.LogLaws.{runs-needed, runs-expand, expand-low, expand-few}
-use Rattle.recording.specs.Tests.{writeOutcome, writeAnswer, logAfter}
+use Rattle.recording.specs.Tests.{writeOutcome, logAfter}
 use Rattle.recording.proofs.WriteLaws.{log-accepted}
 use Rattle.recording.proofs.PromiseLaws.{write-decides, writes, writable, write-accepts, write-said, all-low, low-entry, log-front}
-use Rattle.replay.specs.Tests.{expandOutcome, expandAnswer, rowAfter}
+use Rattle.replay.specs.Tests.{expandOutcome, rowAfter}
 use Rattle.replay.proofs.PaintLaws.{expand-accepted, expand-accepts}
 use Rattle.replay.proofs.PromiseLaws.{expand-decides, expands, expand-said, row-accepted}
 use Rattle.guarantees.specs.Logging.{writeNumber, expandNumber, neededOf, LogDemand}

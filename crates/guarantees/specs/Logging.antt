@@ -4,7 +4,7 @@ use mathlib.Core.Path.{_≡_}
 use mathlib.Core.List.{List}
 use lib.ListN.{length, take}
 use Rattle.refusal.specs.Causes.{numberIn}
-use Rattle.refusal.specs.Conditions.{Gives, Decides}
+use Rattle.refusal.specs.Conditions.{Decides}
 use Rattle.runs.specs.declared.Run.{Run}
 use Rattle.recording.specs.Tests.{writeAnswer, logAfter}
 use Rattle.recording.specs.Limits.{Writable, writeConditions}

@@ -28,7 +28,6 @@ use Rattle.quickreport.specs.Output.{quickOutputOf}
 use Rattle.dependencies.specs.Order.{orderOf as taskOrderOf}
 use Rattle.feedsreport.specs.Output.{feedsOutputOf}
 use Rattle.runs.specs.declared.Run.{Run}
-use Rattle.runs.specs.declared.Logged.{Logged}
 use Rattle.runs.specs.Runs.{run}
 use Rattle.recording.specs.Tests.{writeAnswer, logAfter}
 use Rattle.replay.specs.Tests.{expandAnswer, rowAfter}

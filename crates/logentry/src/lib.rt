@@ -2,7 +2,7 @@
 ghost use mathlib.Core.Path.{_≡_};
 ghost use Prim.Native.Nat.{_≤_};
 ghost use lib.ListN.{length};
-ghost use Rattle.refusal.specs.Causes.{numberIn, placeIn};
+ghost use Rattle.refusal.specs.Causes.{placeIn};
 ghost use Rattle.recording.specs.Tests.{writeAnswer, logAfter};
 ghost use Rattle.recording.specs.Limits.{Writable, writeConditions};
 ghost use Rattle.recording.specs.Promise.{Writes};

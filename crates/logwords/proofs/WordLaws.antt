@@ -1,10 +1,10 @@
 -- Records in a row of numbers: how many, which, and what storing one changes.
-use mathlib.Core.Path.{_≡_, refl, sym, _∙_, ap}
+use mathlib.Core.Path.{_≡_, refl, _∙_, ap}
 use mathlib.Core.List.{List, [], _∷_, _++_}
-use Prim.Native.Nat.{ℕ, zero, suc, _+_, _*_, _/_, _%_, _<_, _≤_}
+use Prim.Native.Nat.{ℕ, zero, suc, _+_, _*_, _/_, _<_, _≤_}
 use native.Mathlib.Omega.{arith}
 use native.Mathlib.Nat.{mod-lt, div-add-mod'}
-use lib.ListN.{length, getD, take, drop, set, length-set}
+use lib.ListN.{length, drop, set, length-set}
 use Rattle.numbers.specs.Rows.{entry}
 use Rattle.runs.specs.declared.Run.{Run}
 use Rattle.runs.specs.Runs.{run}

@@ -1,12 +1,12 @@
 -- The pass over the answers, and the writer's tests made in order.
 use mathlib.Core.Path.{_≡_, refl, sym, _∙_, ap}
 use mathlib.Core.List.{List, [], _∷_}
-use mathlib.Core.Bool.{true, false, not}
+use mathlib.Core.Bool.{not}
 use Prim.Native.Nat.{ℕ, zero, suc, _+_, _≤_, _<_}
 use native.Mathlib.Omega.{arith}
 use borrow.Author.Tests.{ltb-false, lt-ltb, le-ltb, eq-eqb, ne-eqb}
 use lib.Dec.{eqb, ltb}
-use lib.ListN.{length, getD, drop, drop-of-length-le}
+use lib.ListN.{length, drop, drop-of-length-le}
 use lib.Seq.{drop-cons}
 use Rattle.numbers.specs.First.{first}
 use Rattle.numbers.specs.Rows.{entry}
@@ -16,7 +16,7 @@ use Rattle.refusal.specs.declared.Cause.{Cause}
 use Rattle.refusal.specs.declared.Cause.the-variants.{Answer, LogRoom}
 use Rattle.refusal.specs.declared.Outcome.{Outcome}
 use Rattle.refusal.specs.declared.Outcome.the-variants.{Accepted, Refused}
-use Rattle.refusal.proofs.TestLaws.{then-first, then-refused, then-then, refuse-at-by, refuse-found}
+use Rattle.refusal.proofs.TestLaws.{then-first, then-refused, refuse-at-by}
 use Rattle.runs.specs.declared.Logged.{Logged}
 use Rattle.runs.specs.Runs.{runs}
 use Rattle.runs.specs.Lent.{loggedBy}

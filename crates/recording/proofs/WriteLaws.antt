@@ -12,12 +12,11 @@ use lib.Seq.{take-length, drop-cons, take-suc, set-at, length-take-le}
 use Rattle.numbers.specs.First.{first}
 use Rattle.refusal.specs.Tests.{byOutcome}
 use Rattle.refusal.specs.declared.Cause.{Cause}
-use Rattle.refusal.specs.declared.Outcome.{Outcome}
 use Rattle.refusal.specs.declared.Outcome.the-variants.{Accepted, Refused}
 use Rattle.refusal.proofs.TestLaws.{then-accepted, refuseAt-accepted, refuseIf-accepted, outcome-cases}
 use Rattle.runs.specs.declared.Run.{Run}
 use Rattle.runs.specs.declared.Logged.{Logged}
-use Rattle.runs.specs.Runs.{run, runs, runsFrom, lead}
+use Rattle.runs.specs.Runs.{run, runs, runsFrom}
 use Rattle.runs.specs.Lent.{loggedBy}
 use Rattle.runs.proofs.LentLaws.{exit-accepted, exit-refused}
 use Rattle.recording.specs.Tests.{aboveAt, answersTest, writeOutcome, writeAnswer, logAfter}

@@ -20,7 +20,7 @@ use Rattle.runs.specs.declared.Logged.{Logged}
 use Rattle.runs.specs.Runs.{total}
 use Rattle.runs.specs.Fit.{unfit, unfitFrom, firstUnfit}
 use Rattle.runs.specs.Lent.{loggedBy}
-use Rattle.runs.proofs.FitLaws.{FitAfter, fit-of}
+use Rattle.runs.proofs.FitLaws.{fit-of}
 use Rattle.replay.specs.declared.Audit.{Audit}
 use Rattle.replay.specs.Tests.{expandOutcome, expandAnswer, audited, auditOf, auditStart, auditAnswer}
 

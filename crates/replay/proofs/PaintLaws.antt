@@ -8,11 +8,10 @@ use borrow.Author.Tests.{eq-eqb, le-leb, lt-leb, leb-true, not-false, eqb-true}
 use lib.Dec.{eqb, leb}
 use lib.ListN.{length, getD, take, drop, set, replicate, length-append, length-drop, length-replicate, drop-of-length-le, replicate-append-replicate, take-append-drop}
 use lib.Seq.{take-all, take-at, drop-cons, set-at, length-take-le}
-use Rattle.numbers.proofs.BoolLaws.{and-left, and-right}
-use Rattle.refusal.specs.Tests.{_then_, refuseIf, refuseAt, byOutcome}
+use Rattle.numbers.proofs.BoolLaws.{and-right}
+use Rattle.refusal.specs.Tests.{_then_, refuseIf, byOutcome}
 use Rattle.refusal.specs.declared.Cause.{Cause}
 use Rattle.refusal.specs.declared.Cause.the-variants.{Record}
-use Rattle.refusal.specs.declared.Outcome.{Outcome}
 use Rattle.refusal.specs.declared.Outcome.the-variants.{Accepted, Refused}
 use Rattle.refusal.proofs.TestLaws.{then-accepted, then-first, refuseAt-zero, refuseAt-accepted, refuseIf-accepted, outcome-cases}
 use mathlib.Core.Logic.{⊎-elim}
@@ -22,7 +21,7 @@ use Rattle.runs.specs.Runs.{expand, total}
 use Rattle.runs.specs.Fit.{unfitFrom, firstUnfit}
 use Rattle.runs.specs.Lent.{loggedBy, exitBy}
 use Rattle.runs.proofs.RunLaws.{length-expand}
-use Rattle.runs.proofs.FitLaws.{FitAfter, fit-of, head-fit}
+use Rattle.runs.proofs.FitLaws.{fit-of, head-fit}
 use Rattle.replay.specs.Tests.{expandOutcome, expandAnswer, rowAfter, painted, paintedAll, toPaint}
 
 -- ---- the loop over one record

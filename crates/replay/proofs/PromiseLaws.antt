@@ -3,11 +3,10 @@ use mathlib.Core.Path.{_≡_, refl, sym, _∙_, ap, subst}
 use mathlib.Core.Bool.{not}
 use mathlib.Core.List.{List, [], _∷_, _++_, append-nil}
 use mathlib.Core.Logic.{⊎-elim}
-use Prim.Native.Nat.{ℕ, _<_, _≤_}
+use Prim.Native.Nat.{ℕ, _≤_}
 use native.Mathlib.Omega.{arith}
 use lib.Dec.{eqb}
-use lib.ListN.{length, drop, drop-of-length-le}
-use Rattle.numbers.specs.First.{first}
+use lib.ListN.{length, drop-of-length-le}
 use Rattle.numbers.proofs.BoundLaws.{unequal-exactly, not-unequal}
 use Rattle.refusal.specs.Causes.{numberIn}
 use Rattle.refusal.specs.Conditions.{only, at, Reports, Tested, Decides}
@@ -24,7 +23,7 @@ use Rattle.runs.specs.Fit.{firstUnfit}
 use Rattle.runs.specs.Log.{lengthsBefore, Unfit, LogOf}
 use Rattle.runs.proofs.RunLaws.{length-expand}
 use Rattle.runs.proofs.LogLaws.{fit-log, lengths-all}
-use Rattle.runs.proofs.UnfitLaws.{unfitAt, unfit-places, unfit-exactly}
+use Rattle.runs.proofs.UnfitLaws.{unfit-places, unfit-exactly}
 use Rattle.runs.proofs.LentLaws.{logged-outcome, logged-accepted, logged-refused, exit-accepted, exit-refused}
 use Rattle.replay.specs.Tests.{expandOutcome, expandAnswer, rowAfter}
 use Rattle.replay.specs.Limits.{Expandable, expandConditions}

@@ -9,7 +9,6 @@ use Rattle.refusal.specs.Tests.{byOutcome}
 use Rattle.refusal.specs.declared.Cause.{Cause}
 use Rattle.refusal.specs.declared.Outcome.{Outcome}
 use Rattle.refusal.specs.declared.Outcome.the-variants.{Accepted, Refused}
-use Rattle.runs.specs.declared.Logged.{Logged}
 use Rattle.runs.specs.Lent.{loggedBy, exitBy}
 
 -- the outcome is that of the tests

@@ -8,7 +8,7 @@ use native.Mathlib.Omega.{arith}
 use native.Mathlib.Decide.{decLt}
 use borrow.Author.Tests.{eqb-true, eqb-false, eq-eqb, ne-eqb}
 use lib.Dec.{eqb}
-use lib.ListN.{length, getD, drop, replicate, length-append, length-replicate, getD-replicate, List·getD-append}
+use lib.ListN.{length, drop, replicate, length-append, length-replicate, getD-replicate, List·getD-append}
 use lib.Seq.{getD-append-add, drop-append-seam}
 use Rattle.numbers.specs.Rows.{entry}
 use Rattle.numbers.specs.Sums.{sumTo}
@@ -18,7 +18,7 @@ use Rattle.runs.specs.Runs.{run, joined, runsFrom, runs, expand, total, 
 use Rattle.runs.specs.Fit.{unfitFrom, firstUnfit}
 use Rattle.runs.specs.Log.{runAt, lengthsBefore, changes, needed, Within, Once, LogOf}
 use Rattle.runs.proofs.RunLaws.{runs-lead, joined-same, joined-other, lead-same, lead-other, length-expand, expand-runs}
-use Rattle.runs.proofs.FitLaws.{FitAfter, fit-of, head-fit, AllLow, runs-all-fit}
+use Rattle.runs.proofs.FitLaws.{fit-of, head-fit, AllLow, runs-all-fit}
 
 -- ---- records in a chain
 

@@ -1,12 +1,12 @@
 -- Laws of runs: where the first run ends, what expands to what, how many there are.
 use mathlib.Core.Path.{_≡_, refl, sym, _∙_, ap}
 use mathlib.Core.Bool.{Bool, true, false}
-use mathlib.Core.List.{List, [], _∷_, _++_}
+use mathlib.Core.List.{List, [], _∷_}
 use Prim.Native.Nat.{ℕ, suc, _+_, _<_, _≤_}
 use native.Mathlib.Omega.{arith}
 use borrow.Author.Tests.{eqb-true, eqb-false, eq-eqb, ne-eqb}
 use lib.Dec.{eqb}
-use lib.ListN.{length, getD, drop, replicate, length-append, length-replicate}
+use lib.ListN.{length, getD, drop, length-append, length-replicate}
 use lib.Seq.{drop-cons, drop-drop}
 use Rattle.runs.specs.declared.Run.{Run}
 use Rattle.runs.specs.Runs.{run, joined, runsFrom, runs, expand, total, lead}

@@ -1,9 +1,8 @@
 -- The records are looked at, and filled in where the answer says so.
 use Prim.Native.Nat.{_/_}
-use mathlib.Core.Path.{_≡_, _∙_, ap}
+use mathlib.Core.Path.{_∙_, ap}
 use native.Mathlib.Omega.{arith}
 use lib.ListN.{length}
-use Rattle.runs.specs.declared.Run.{Run}
 use Rattle.replay.specs.declared.Audit.{Audit}
 use Rattle.replay.specs.Tests.{auditStart, auditAnswer, toPaint}
 use Rattle.replay.proofs.AuditLaws.{range-all, audit-answers}

@@ -1,7 +1,5 @@
 -- All or none, by the outcome.
-use mathlib.Core.Path.{sym, ap}
 use Rattle.refusal.specs.Tests.{byOutcome}
-use Rattle.refusal.specs.declared.Outcome.{Outcome}
 use Rattle.replay.specs.Tests.{toPaint}
 use borrow.Author.Needs.{needs}
 use Rattle.replay.proofs.to_paint.Statement.{statement}
