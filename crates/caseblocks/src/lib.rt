@@ -7,9 +7,10 @@ ghost use Rattle.io.specs.Counts.{Counts};
 ghost use Rattle.numbers.specs.Rows.{row};
 ghost use Rattle.wire.specs.Bytes.{wordAt};
 ghost use Rattle.edf.specs.Slots.{emptySlot};
-ghost use Rattle.caseblocks.specs.Blocks.{slotIn, fieldsIn};
+ghost use Rattle.caseblocks.specs.Blocks.{slotIn, runIn, fieldsIn};
 use edf::Slot;
 use fields::Fields;
+use runs::Run;
 
 // What was read of a block: whether it is whole, and how many bytes it has. It is not whole, and has none, where the input ended or
 // the block is longer than it may be.
@@ -58,46 +59,6 @@ pub fn numbers_of(bytes: &[u8]) -> [u32; 16]
     numbers
 }
 
-// Reads a block of exactly the buffer's length; false where there is none.
-pub fn read_exact(buffer: &mut [u8]) -> bool {
-    let length = buffer.len();
-    let block = read_block(buffer);
-    block.whole & (block.length == length)
-}
-
-// A number that was read, and whether its block is whole.
-pub struct Number {
-    pub whole: bool,
-    pub value: u32,
-}
-
-// Reads a number, a block of 4 bytes.
-pub fn read_number() -> Number {
-    let mut bytes = [0u8; 4];
-    let whole = read_exact(&mut bytes);
-    Number {
-        whole: whole,
-        value: wire::word(&bytes, 0),
-    }
-}
-
-// Sixteen numbers that were read, and whether their block is whole.
-pub struct Sixteen {
-    pub whole: bool,
-    pub numbers: [u32; 16],
-}
-
-// Reads sixteen numbers, a block of 64 bytes.
-pub fn read_sixteen() -> Sixteen {
-    let mut bytes = [0u8; 64];
-    let whole = read_exact(&mut bytes);
-    let numbers = numbers_of(&bytes);
-    Sixteen {
-        whole: whole,
-        numbers: numbers,
-    }
-}
-
 // Slot `k` of a record's bytes.
 fn slot_in(bytes: &[u8], k: usize) -> Slot
     requires { ⌜ k < 16 ⌝ }
@@ -127,6 +88,20 @@ pub fn slots_in(bytes: &[u8]) -> [Slot; 16]
         k += 1;
     }
     slots
+}
+
+// The record of the run log that twelve bytes say.
+pub fn run_in(bytes: &[u8]) -> Run
+    ensures { λ r. ⌜ r ≡ runIn (now (bytes .entry)) ⌝ }
+{
+    let task = wire::word(bytes, 0);
+    let first = wire::word(bytes, 4);
+    let length = wire::word(bytes, 8);
+    Run {
+        task: task,
+        first: first,
+        length: length,
+    }
 }
 
 // The fields that the blocks of code 8 say.

@@ -1,8 +1,8 @@
 -- The numbers of a piece fit a text.
 use Rattle.caselines.proofs.PieceLaws.{piece-there, piece-whole}
 use borrow.Author.Needs.{needs}
-use Rattle.caseoutputs.proofs.logs.word_piece.Statement.{statement}
-use Rattle.caseoutputs.proofs.logs.word_piece.Tie as tie
+use Rattle.caselines.proofs.outputs.word_piece.Statement.{statement}
+use Rattle.caselines.proofs.outputs.word_piece.Tie as tie
 
 pub word-piece-spec : {M : Type 1} → statement M
 word-piece-spec =

@@ -2,8 +2,8 @@
 use Prim.Native.Nat.{_≤_, _-_}
 use lib.ListN.{length}
 use borrow.Author.Needs.{needs}
-use Rattle.caseoutputs.proofs.logs.show_words.Statement.{statement}
-use Rattle.caseoutputs.proofs.logs.show_words.Tie as tie
+use Rattle.cases.proofs.show_words.Statement.{statement}
+use Rattle.cases.proofs.show_words.Tie as tie
 
 abbrev Inv-loop : tie.InvT-loop
 Inv-loop words at₀ at = at ≤ length words

@@ -7,8 +7,8 @@ use lib.Seq.{length-take-le}
 use Rattle.logwords.specs.Words.{recordsIn}
 use Rattle.logwords.proofs.WordLaws.{records-count, records-fit}
 use borrow.Author.Needs.{needs}
-use Rattle.caseoutputs.proofs.logs.read_records.Statement.{statement}
-use Rattle.caseoutputs.proofs.logs.read_records.Tie as tie
+use Rattle.cases.proofs.read_records.Statement.{statement}
+use Rattle.cases.proofs.read_records.Tie as tie
 
 read-runs-requires : tie.Need-read-runs-requires
 read-runs-requires c κs = let n = records-count (c .before .before .before .before .before .before .before .before .before .before .args .words .now) in omega (arith, n, c .before .if3 .left)

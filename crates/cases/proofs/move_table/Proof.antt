@@ -1,8 +1,8 @@
 -- Both moves keep the length of the output.
 use mathlib.Core.Logic.{⊎-elim}
 use borrow.Author.Needs.{needs}
-use Rattle.caseoutputs.proofs.tables.move_table.Statement.{statement}
-use Rattle.caseoutputs.proofs.tables.move_table.Tie as tie
+use Rattle.cases.proofs.move_table.Statement.{statement}
+use Rattle.cases.proofs.move_table.Tie as tie
 
 pub move-table-spec : {M : Type 1} → statement M
 move-table-spec =

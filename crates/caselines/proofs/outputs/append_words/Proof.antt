@@ -6,8 +6,8 @@ use native.Mathlib.Omega.{arith}
 use Rattle.decimal.specs.Decimal.{field}
 use Rattle.decimal.proofs.JoinLaws.{Joined, join-start, join-next, join-done}
 use borrow.Author.Needs.{needs}
-use Rattle.caseoutputs.proofs.logs.append_words.Statement.{statement}
-use Rattle.caseoutputs.proofs.logs.append_words.Tie as tie
+use Rattle.caselines.proofs.outputs.append_words.Statement.{statement}
+use Rattle.caselines.proofs.outputs.append_words.Tie as tie
 
 abbrev Inv-loop : tie.InvT-loop
 Inv-loop words longer₀ k₀ longer k = Joined field 21 (length words) longer₀ words longer k

@@ -2,8 +2,8 @@
 use Prim.Native.Nat.{_≤_, _-_}
 use lib.ListN.{length}
 use borrow.Author.Needs.{needs}
-use Rattle.caseoutputs.proofs.ends.show_bytes.Statement.{statement}
-use Rattle.caseoutputs.proofs.ends.show_bytes.Tie as tie
+use Rattle.cases.proofs.show_bytes.Statement.{statement}
+use Rattle.cases.proofs.show_bytes.Tie as tie
 
 abbrev Inv-loop : tie.InvT-loop
 Inv-loop out at₀ at = at ≤ length out
