@@ -1,6 +1,6 @@
 // Core bytes: which cores a task may use, how many, and the lowest of them. Bit 0 stands for core 1, up to bit 3 for core 4.
 ghost use Rattle.std.specs.Prelude.{◌≡◌, ◌+◌, ◌≤◌, ◌<◌};
-ghost use Rattle.affinity.specs.Permitted.{permitted, allowed, permittedCount, lowestPermitted, unfit, everyCore};
+ghost use Rattle.affinity.specs.Permitted.{permitted, allowed, permitted_count, lowest_permitted, unfit, every_core};
 
 // Whether a byte permits the core after `below` others.
 pub fn permits(byte: u8, below: u32) -> bool
@@ -25,14 +25,14 @@ pub fn allows(byte: u8, choice: u8) -> bool
 
 // How many cores a byte permits: the count of its ones.
 pub fn count(byte: u8) -> u32
-    ensures { result ≡ permittedCount byte 8 }
+    ensures { result ≡ permitted_count byte 8 }
 {
     u8::count_ones(byte)
 }
 
 // The lowest core that a byte permits: its trailing zeros, plus 1; 0 if it permits none.
 pub fn lowest(byte: u8) -> u32
-    ensures { result ≡ lowestPermitted byte 8 }
+    ensures { result ≡ lowest_permitted byte 8 }
 {
     if byte == 0 {
         return 0;
@@ -50,7 +50,7 @@ pub fn is_unfit(byte: u8, m: usize) -> bool
 
 // The byte that permits each of `m` cores, of which there are four at most.
 pub fn every_core(m: usize) -> u8
-    ensures { result ≡ everyCore m }
+    ensures { result ≡ every_core m }
 {
     if m < 4 { 15 >> (4 - m) } else { 15 }
 }

@@ -12,13 +12,13 @@ use borrow.Author.Tests.{lt-ltb}
 use Rattle.allocation.specs.Placement.{Problem, permits, Feasible, rejected, load}
 use Rattle.allocation.specs.Best.{Earlier, Before}
 use Rattle.allocation.specs.Rule.{tried, Redundant}
-use Rattle.allocation.specs.Walk.{Step, stepInto, boundAfter, storedAfter, fits, entered, tryAll, visit, choices}
+use Rattle.allocation.specs.Walk.{Step, step_into, bound_after, stored_after, fits, entered, try_all, visit, choices}
 use Rattle.numbers.proofs.BoolLaws.{and_intro}
-use Rattle.numbers.proofs.LoadLaws.{demandOn-mono}
-use Rattle.allocation.proofs.Demands.{excess-le}
-use Rattle.allocation.proofs.Order.{earlier-trans, before-ne, before_at, length-choices, choice-core, choice-none, Ordered, choices-ordered}
-use Rattle.allocation.proofs.Steps.{boundAfter-append, storedAfter-append}
-use Rattle.allocation.proofs.Sound.{fits-so, into, entered-rejects, try-skip, try-enter}
+use Rattle.numbers.proofs.LoadLaws.{demand_on_mono}
+use Rattle.allocation.proofs.Demands.{excess_le}
+use Rattle.allocation.proofs.Order.{earlier_trans, before_ne, before_at, length-choices, choice_core, choice_none, Ordered, choices-ordered}
+use Rattle.allocation.proofs.Steps.{bound_after-append, stored_after-append}
+use Rattle.allocation.proofs.Sound.{fits_so, into, entered_rejects, try_skip, try_enter}
 
 -- x begins with the choices p
 abbrev pub Begins : List ℕ → List ℕ → Type 0
@@ -37,47 +37,47 @@ pub record Kept (P : Problem) (R : List ℕ → Type 0) (b : ℕ) (q : List ℕ)
 
 -- what a feasible placement says of one of its choices
 module _ (P : Problem) (p : List ℕ) (c : ℕ) (r : List ℕ) where
-  at-seam : length p < length (p ++ (c ∷ r))
-  at-seam = omega (arith, length-append p (c ∷ r))
+  at_seam : length p < length (p ++ (c ∷ r))
+  at_seam = omega (arith, length-append p (c ∷ r))
 
-  pub choice-within : Feasible P (p ++ (c ∷ r)) → c ≤ P.cores
-  choice-within f = rw get_or-append_seam at (f.core (length p) at-seam)
+  pub choice_within : Feasible P (p ++ (c ∷ r)) → c ≤ P.cores
+  choice_within f = rw get_or-append_seam at (f.core (length p) at_seam)
 
-  choice-permitted : Feasible P (p ++ (c ∷ r)) → 1 ≤ c → permits P (length p) c ≡ true
-  choice-permitted f = rw get_or-append_seam at (f.permitted (length p) at-seam)
+  choice_permitted : Feasible P (p ++ (c ∷ r)) → 1 ≤ c → permits P (length p) c ≡ true
+  choice_permitted f = rw get_or-append_seam at (f.permitted (length p) at_seam)
 
-  pub snoc-mono : (d : ℕ) → load P d (p ++ (c ∷ [])) ≤ load P d (p ++ (c ∷ r))
-  snoc-mono d = rw append_snoc at (demandOn-mono d P.demands (p ++ (c ∷ [])) r)
+  pub snoc_mono : (d : ℕ) → load P d (p ++ (c ∷ [])) ≤ load P d (p ++ (c ∷ r))
+  snoc_mono d = rw append_snoc at (demand_on_mono d P.demands (p ++ (c ∷ [])) r)
 
-pub choice-fits : (P : Problem) (p : List ℕ) (c : ℕ) (r : List ℕ) → Feasible P (p ++ (c ∷ r)) → fits P p c ≡ true
-choice-fits P p c r f =
-    fits-so P p c (λ i. (choice-permitted P p c r f i, le_trans (snoc-mono P p c r c) (f.fits c i (choice-within P p c r f))))
+pub choice_fits : (P : Problem) (p : List ℕ) (c : ℕ) (r : List ℕ) → Feasible P (p ++ (c ∷ r)) → fits P p c ≡ true
+choice_fits P p c r f =
+    fits_so P p c (λ i. (choice_permitted P p c r f i, le_trans (snoc_mono P p c r c) (f.fits c i (choice_within P p c r f))))
 
 -- all of R comes after what begins with p
 abbrev After : (List ℕ → Type 0) → List ℕ → Type 0
 After R p = (r x : List ℕ) → R x → Before (p ++ r) x
 
 module _ (R : List ℕ → Type 0) (p : List ℕ) where
-  coming-rest : (cs : List ℕ) {x : List ℕ} → R x → Coming R p cs x
-  coming-rest [] h = h
-  coming-rest (c ∷ cs) h = inr (coming-rest cs h)
+  coming_rest : (cs : List ℕ) {x : List ℕ} → R x → Coming R p cs x
+  coming_rest [] h = h
+  coming_rest (c ∷ cs) h = inr (coming_rest cs h)
 
-  coming-at : (cs : List ℕ) (j : ℕ) → j < length cs → (r : List ℕ) → Coming R p cs (p ++ (get_or cs j 0 ∷ r))
-  coming-at [] j l r = absurd (omega arith)
-  coming-at (c ∷ cs) zero l r = inl (r, sym (append_snoc p c r))
-  coming-at (c ∷ cs) (suc j) l r = inr (coming-at cs j (omega arith) r)
+  coming_at : (cs : List ℕ) (j : ℕ) → j < length cs → (r : List ℕ) → Coming R p cs (p ++ (get_or cs j 0 ∷ r))
+  coming_at [] j l r = absurd (omega arith)
+  coming_at (c ∷ cs) zero l r = inl (r, sym (append_snoc p c r))
+  coming_at (c ∷ cs) (suc j) l r = inr (coming_at cs j (omega arith) r)
 
-  coming-choice : (m d : ℕ) → d ≤ m → (r : List ℕ) → Coming R p (choices m) (p ++ (d ∷ r))
-  coming-choice m zero l r = rw (choice-none m) at (coming-at (choices m) m (omega (arith, length-choices m)) r)
-  coming-choice m (suc d) l r = rw (choice-core m d l) at (coming-at (choices m) d (omega (arith, length-choices m)) r)
+  coming_choice : (m d : ℕ) → d ≤ m → (r : List ℕ) → Coming R p (choices m) (p ++ (d ∷ r))
+  coming_choice m zero l r = rw (choice_none m) at (coming_at (choices m) m (omega (arith, length-choices m)) r)
+  coming_choice m (suc d) l r = rw (choice_core m d l) at (coming_at (choices m) d (omega (arith, length-choices m)) r)
 
   -- a choice d that is earlier than all of cs
   module _ (after : After R p) (d : ℕ) (r : List ℕ) where
-    coming-after : (cs : List ℕ) → ((j : ℕ) → j < length cs → Earlier d (get_or cs j 0)) → {x : List ℕ} → Coming R p cs x
+    coming_after : (cs : List ℕ) → ((j : ℕ) → j < length cs → Earlier d (get_or cs j 0)) → {x : List ℕ} → Coming R p cs x
         → Before (p ++ (d ∷ r)) x
-    coming-after [] h {x} y = after (d ∷ r) x y
-    coming-after (c ∷ cs) h (inl y) = rw (y.1, append_snoc p c y.0) (before_at p r y.0 (h 0 (omega arith)))
-    coming-after (c ∷ cs) h (inr y) = coming-after cs (λ j l. h (suc j) (omega arith)) y
+    coming_after [] h {x} y = after (d ∷ r) x y
+    coming_after (c ∷ cs) h (inl y) = rw (y.1, append_snoc p c y.0) (before_at p r y.0 (h 0 (omega arith)))
+    coming_after (c ∷ cs) h (inr y) = coming_after cs (λ j l. h (suc j) (omega arith)) y
 
 module _ (P : Problem) (redundant : Redundant P) where
   -- less is yet to come
@@ -89,29 +89,29 @@ module _ (P : Problem) (redundant : Redundant P) where
   abbrev Deep : ℕ → Type 1
   Deep k = (R : List ℕ → Type 0) (p : List ℕ) → After R p → length p + k ≡ length P.demands → (b : ℕ) (q : List ℕ)
       → rejected P p < b → Kept P (λ x. Begins p x ⊎ R x) b q
-      → Kept P R (boundAfter P b (stepInto k p ∷ visit P k p b)) (storedAfter q (stepInto k p ∷ visit P k p b))
+      → Kept P R (bound_after P b (step_into k p ∷ visit P k p b)) (stored_after q (step_into k p ∷ visit P k p b))
 
   -- the choices of a node
   module _ (k : ℕ) (deep : Deep k) (R : List ℕ → Type 0) (p : List ℕ) (after : After R p)
       (short : length p + suc k ≡ length P.demands) where
     abbrev tries : List ℕ → ℕ → List Step
-    tries cs b = tryAll P k (λ p' b'. visit P k p' b') p cs b
+    tries cs b = try_all P k (λ p' b'. visit P k p' b') p cs b
 
     abbrev Ends : List ℕ → ℕ → List ℕ → Type 0
-    Ends cs b q = Kept P R (boundAfter P b (tries cs b)) (storedAfter q (tries cs b))
+    Ends cs b q = Kept P R (bound_after P b (tries cs b)) (stored_after q (tries cs b))
 
-    try-kept : (cs : List ℕ) → Ordered cs → (b : ℕ) (q : List ℕ) → Kept P (Coming R p cs) b q → Ends cs b q
-    unfolding tryAll boundAfter storedAfter entered
-    try-kept [] o b q s = s
-    try-kept (c ∷ cs) o b q s =
-        go (entered P p c b) refl (try-kept cs (λ i j h l. o (suc i) (suc j) (omega arith) (omega arith)))
+    try_kept : (cs : List ℕ) → Ordered cs → (b : ℕ) (q : List ℕ) → Kept P (Coming R p cs) b q → Ends cs b q
+    unfolding try_all bound_after stored_after entered
+    try_kept [] o b q s = s
+    try_kept (c ∷ cs) o b q s =
+        go (entered P p c b) refl (try_kept cs (λ i j h l. o (suc i) (suc j) (omega arith) (omega arith)))
       where
         later : (j : ℕ) → j < length cs → Earlier c (get_or cs j 0)
         later j l = o 0 (suc j) (omega arith) (omega arith)
 
         from : (d : ℕ) → Earlier d c → (j : ℕ) → j < length (c ∷ cs) → Earlier d (get_or (c ∷ cs) j 0)
         from d x zero i = x
-        from d x (suc j) i = earlier-trans x (later j (omega arith))
+        from d x (suc j) i = earlier_trans x (later j (omega arith))
 
         -- c is not entered: nothing through it is better
         beaten : entered P p c b ≡ false → (r : List ℕ) → Feasible P (p ++ (c ∷ r)) → rejected P (p ++ (c ∷ r)) < b → ⊥
@@ -119,14 +119,14 @@ module _ (P : Problem) (redundant : Redundant P) where
           where
             enters : tried P p c ≡ true → entered P p c b ≡ true
             enters t =
-                and_intro _ _ (and_intro _ _ (choice-fits P p c r f) t)
-                (lt-ltb _ b (omega (arith, snoc-mono P p c r 0, excess-le P (p ++ (c ∷ r)) f)))
+                and_intro _ _ (and_intro _ _ (choice_fits P p c r f) t)
+                (lt-ltb _ b (omega (arith, snoc_mono P p c r 0, excess_le P (p ++ (c ∷ r)) f)))
 
             look : (t : Bool) → tried P p c ≡ t → ⊥
             look false t =
                 let x = redundant p c r t f in
                 let y = s.left _ x.feasible (omega (arith, x.no_more)) in
-                before-ne (coming-after R p after x.choice x.rest (c ∷ cs) (from x.choice x.earlier) y) refl
+                before_ne (coming_after R p after x.choice x.rest (c ∷ cs) (from x.choice x.earlier) y) refl
             look true t = true≢false (sym (enters t) ∙ e)
 
         t : List Step
@@ -135,15 +135,15 @@ module _ (P : Problem) (redundant : Redundant P) where
         go : (x : Bool) → entered P p c b ≡ x → ((b' : ℕ) (q' : List ℕ) → Kept P (Coming R p cs) b' q' → Ends cs b' q')
             → Ends (c ∷ cs) b q
         go false e rest =
-            rw (try-skip P k _ p c cs b e) (rest b q (narrow (λ x f l. ⊎_elim
+            rw (try_skip P k _ p c cs b e) (rest b q (narrow (λ x f l. ⊎_elim
             (λ y. let i = y.1 ∙ append_snoc p c y.0 in absurd (beaten e y.0 (rw i at f) (rw i at l))) (λ y. y)) s))
         go true e rest =
-            rw (try-enter P k _ p c cs b e, boundAfter-append P b t, storedAfter-append q t) (rest _ _
-            (deep (λ x. Coming R p cs x) (p ++ (c ∷ [])) (λ r x y. rw append_snoc (coming-after R p after c r cs later y))
-            (omega (arith, length-append p (c ∷ []))) b q (entered-rejects P p c b e) s))
+            rw (try_enter P k _ p c cs b e, bound_after-append P b t, stored_after-append q t) (rest _ _
+            (deep (λ x. Coming R p cs x) (p ++ (c ∷ [])) (λ r x y. rw append_snoc (coming_after R p after c r cs later y))
+            (omega (arith, length-append p (c ∷ []))) b q (entered_rejects P p c b e) s))
 
   pub deep : (k : ℕ) → Deep k
-  unfolding visit stepInto boundAfter storedAfter
+  unfolding visit step_into bound_after stored_after
   deep zero R p after n b q h s = record {
     bound = le_refl (rejected P p);
     first = λ x f e. ⊎_elim (λ y. inl (same x f y)) (λ y. inr (rw append-nil at (after [] x y))) (s.left x f (omega arith));
@@ -153,9 +153,9 @@ module _ (P : Problem) (redundant : Redundant P) where
       same : (x : List ℕ) → Feasible P x → Begins p x → p ≡ x
       same x f y = sym (take-append_seam p y.0) ∙ rw (← y.1) (take_all (length p) x (omega (arith, f.whole)))
   deep (suc k) R p after n b q h s =
-      try-kept k (deep k) R p after n (choices P.cores) (choices-ordered P.cores) b q
-      (narrow (λ x f l. ⊎_elim (λ y. opens x f y.0 y.1) (coming-rest R p (choices P.cores))) s)
+      try_kept k (deep k) R p after n (choices P.cores) (choices-ordered P.cores) b q
+      (narrow (λ x f l. ⊎_elim (λ y. opens x f y.0 y.1) (coming_rest R p (choices P.cores))) s)
     where
       opens : (x : List ℕ) → Feasible P x → (r : List ℕ) → x ≡ p ++ r → Coming R p (choices P.cores) x
       opens x f [] i = absurd (omega (arith, rw i at f.whole, length-append p []))
-      opens x f (d ∷ r) i = rw i (coming-choice R p P.cores d (choice-within P p d r (rw i at f)) r)
+      opens x f (d ∷ r) i = rw i (coming_choice R p P.cores d (choice_within P p d r (rw i at f)) r)

@@ -11,16 +11,16 @@ use lib.ListN.{length, get_or, length-append}
 use lib.Seq.{append_snoc}
 use borrow.Author.Tests.{eq-eqb, ne_eqb, eqb-true}
 use Rattle.allocation.specs.Placement.{Problem, rejected}
-use Rattle.allocation.specs.Best.{Earlier, core-core, core-none, Before, here, there}
-use Rattle.allocation.specs.Walk.{Step, inner, leaf, stepInto, boundAfter, entered, tryAll, visit, choices, up_from, trace}
-use Rattle.allocation.specs.EntryRule.{Enters, allDemands}
-use Rattle.allocation.specs.DepthFirst.{Sooner, Among, incumbentFrom, incumbent, MayFollow, Next, Follow, DepthFirst}
-use Rattle.allocation.proofs.Demands.{total-all, load-with}
-use Rattle.allocation.proofs.Order.{earlier-ne, before-asym, before_at}
-use Rattle.allocation.proofs.Sound.{into, try-skip, try-enter}
-use Rattle.allocation.proofs.EntryRule.{entry-rule}
+use Rattle.allocation.specs.Best.{Earlier, core_core, core_none, Before, here, there}
+use Rattle.allocation.specs.Walk.{Step, inner, leaf, step_into, bound_after, entered, try_all, visit, choices, up_from, trace}
+use Rattle.allocation.specs.EntryRule.{Enters, all_demands}
+use Rattle.allocation.specs.DepthFirst.{Sooner, Among, incumbent_from, incumbent, MayFollow, Next, Follow, DepthFirst}
+use Rattle.allocation.proofs.Demands.{total-all, load_with}
+use Rattle.allocation.proofs.Order.{earlier_ne, before_asym, before_at}
+use Rattle.allocation.proofs.Sound.{into, try_skip, try_enter}
+use Rattle.allocation.proofs.EntryRule.{entry_rule}
 
--- ---- the depth-first order
+-- ---- the depth_first order
 
 -- nothing comes after all that begins with no choice
 before-none : {p q : List ℕ} → Before p q → p ≡ [] → ⊥
@@ -28,16 +28,16 @@ before-none (here e) i = omega (arith, ap length i)
 before-none (there b) i = omega (arith, ap length i)
 
 -- what continues p does not come before it
-before-off : {p q : List ℕ} → Before q p → (r : List ℕ) → q ≡ p ++ r → ⊥
-before-off (here e) r i = earlier-ne e (head-eq_of_cons-eq i)
-before-off (there b) r i = before-off b r (tail-eq_of_cons-eq i)
+before_off : {p q : List ℕ} → Before q p → (r : List ℕ) → q ≡ p ++ r → ⊥
+before_off (here e) r i = earlier_ne e (head-eq_of_cons-eq i)
+before_off (there b) r i = before_off b r (tail-eq_of_cons-eq i)
 
-sooner-asym : (p q : List ℕ) → Sooner p q → Sooner q p → ⊥
-sooner-asym p q (inl x) (inl y) =
+sooner_asym : (p q : List ℕ) → Sooner p q → Sooner q p → ⊥
+sooner_asym p q (inl x) (inl y) =
     omega (arith, ap length x.2, length-append p (x.0 ∷ x.1), ap length y.2, length-append q (y.0 ∷ y.1))
-sooner-asym p q (inl x) (inr b) = before-off b (x.0 ∷ x.1) x.2
-sooner-asym p q (inr b) (inl y) = before-off b (y.0 ∷ y.1) y.2
-sooner-asym p q (inr b) (inr d) = before-asym b d
+sooner_asym p q (inl x) (inr b) = before_off b (x.0 ∷ x.1) x.2
+sooner_asym p q (inr b) (inl y) = before_off b (y.0 ∷ y.1) y.2
+sooner_asym p q (inr b) (inr d) = before_asym b d
 
 -- what comes after all that begins with p comes after all that begins with more
 before_more : {p q : List ℕ} → Before p q → (r : List ℕ) → Before (p ++ r) q
@@ -52,31 +52,31 @@ under : (x : ℕ) {p : List ℕ} {D : ℕ → Type 0} {s : List ℕ} → Region 
 under x (inl y) = inl (y.0, y.1, ap (λ (l : List ℕ). x ∷ l) y.2, y.3)
 under x (inr b) = inr (there b)
 
-before-snoc : (p : List ℕ) (c : ℕ) {s : List ℕ} → Before (p ++ (c ∷ [])) s → Region p (Earlier c) s
-before-snoc [] c (here {d = d} {q = q} e) = inl (d, q, refl, e)
-before-snoc [] c (there b) = absurd (before-none b refl)
-before-snoc (x ∷ p) c (here e) = inr (here e)
-before-snoc (x ∷ p) c (there b) = under x (before-snoc p c b)
+before_snoc : (p : List ℕ) (c : ℕ) {s : List ℕ} → Before (p ++ (c ∷ [])) s → Region p (Earlier c) s
+before_snoc [] c (here {d = d} {q = q} e) = inl (d, q, refl, e)
+before_snoc [] c (there b) = absurd (before-none b refl)
+before_snoc (x ∷ p) c (here e) = inr (here e)
+before_snoc (x ∷ p) c (there b) = under x (before_snoc p c b)
 
-snoc-before : (p : List ℕ) (c : ℕ) {s : List ℕ} → Region p (Earlier c) s → Before (p ++ (c ∷ [])) s
-snoc-before p c (inl x) = rw x.2 (before_at p [] x.1 x.3)
-snoc-before p c (inr b) = before_more b (c ∷ [])
+snoc_before : (p : List ℕ) (c : ℕ) {s : List ℕ} → Region p (Earlier c) s → Before (p ++ (c ∷ [])) s
+snoc_before p c (inl x) = rw x.2 (before_at p [] x.1 x.3)
+snoc_before p c (inr b) = before_more b (c ∷ [])
 
 -- ---- lists with one entry more
 
-among-left : (p : List ℕ) (made more : List (List ℕ)) → Among p made → Among p (made ++ more)
-among-left p [] more a = absurd a
-among-left p (q ∷ made) more (inl e) = inl e
-among-left p (q ∷ made) more (inr a) = inr (among-left p made more a)
+among_left : (p : List ℕ) (made more : List (List ℕ)) → Among p made → Among p (made ++ more)
+among_left p [] more a = absurd a
+among_left p (q ∷ made) more (inl e) = inl e
+among_left p (q ∷ made) more (inr a) = inr (among_left p made more a)
 
-among-last : (p : List ℕ) (made : List (List ℕ)) → Among p (made ++ (p ∷ []))
-among-last p [] = inl refl
-among-last p (q ∷ made) = inr (among-last p made)
+among_last : (p : List ℕ) (made : List (List ℕ)) → Among p (made ++ (p ∷ []))
+among_last p [] = inl refl
+among_last p (q ∷ made) = inr (among_last p made)
 
-among-snoc : (p q : List ℕ) (made : List (List ℕ)) → Among p (made ++ (q ∷ [])) → Among p made ⊎ (p ≡ q)
-among-snoc p q [] a = ⊎_elim inr (λ n. absurd n) a
-among-snoc p q (x ∷ made) (inl e) = inl (inl e)
-among-snoc p q (x ∷ made) (inr a) = ⊎_map (λ y. inr y) (λ e. e) (among-snoc p q made a)
+among_snoc : (p q : List ℕ) (made : List (List ℕ)) → Among p (made ++ (q ∷ [])) → Among p made ⊎ (p ≡ q)
+among_snoc p q [] a = ⊎_elim inr (λ n. absurd n) a
+among_snoc p q (x ∷ made) (inl e) = inl (inl e)
+among_snoc p q (x ∷ made) (inr a) = ⊎_map (λ y. inr y) (λ e. e) (among_snoc p q made a)
 
 -- of a list that goes on from p, all but the last entry are p, or go on from it likewise
 all_but_last : (p : List ℕ) (d : ℕ) (r q : List ℕ) (c : ℕ) → p ++ (d ∷ r) ≡ q ++ (c ∷ [])
@@ -105,21 +105,21 @@ module _ (m : ℕ) where
 
   -- the choices later than core k
   from_up : (k : ℕ) → 1 ≤ k → (d : ℕ) → (d ≡ 0) ⊎ (suc k ≤ d) → Earlier k d
-  from_up k i d (inl e) = rw e (core-none {c = k} i)
-  from_up k i d (inr l) = core-core {c = k} {d = d} i l
+  from_up k i d (inl e) = rw e (core_none {c = k} i)
+  from_up k i d (inr l) = core_core {c = k} {d = d} i l
 
-  up-from : {k d : ℕ} → Earlier k d → (d ≡ 0) ⊎ (suc k ≤ d)
-  up-from (core-core i l) = inr l
-  up-from (core-none i) = inl refl
+  up_from_lem : {k d : ℕ} → Earlier k d → (d ≡ 0) ⊎ (suc k ≤ d)
+  up_from_lem (core_core i l) = inr l
+  up_from_lem (core_none i) = inl refl
 
   none_last : {c d : ℕ} → Earlier c d → c ≡ 0 → ⊥
-  none_last (core-core i l) e = omega arith
-  none_last (core-none i) e = omega arith
+  none_last (core_core i l) e = omega arith
+  none_last (core_none i) e = omega arith
 
-  lists-up : (n k : ℕ) (D : ℕ → Type 0) → n + k ≡ m + 1 → 1 ≤ k → ((d : ℕ) → (d ≡ 0) ⊎ (k ≤ d) → D d) → ((d : ℕ) → D d → (d ≡ 0) ⊎ (k ≤ d))
+  lists_up : (n k : ℕ) (D : ℕ → Type 0) → n + k ≡ m + 1 → 1 ≤ k → ((d : ℕ) → (d ≡ 0) ⊎ (k ≤ d) → D d) → ((d : ℕ) → D d → (d ≡ 0) ⊎ (k ≤ d))
       → Lists D (up_from k n ++ (0 ∷ []))
   unfolding up_from
-  lists-up zero k D e i f g = (
+  lists_up zero k D e i f g = (
     record {
       self = f 0 (inl refl);
       core = zero-le;
@@ -128,19 +128,19 @@ module _ (m : ℕ) where
     },
     λ d x l. none_last x refl,
   )
-  lists-up (suc n) k D e i f g = (
+  lists_up (suc n) k D e i f g = (
     record {
       self = f k (inr (omega arith));
       core = omega arith;
       first = λ d x l. ⊎_elim (λ z. inr (from_up k i d (inl z))) (λ h. ⊎_map sym (λ y. from_up k i d (inr y)) (eq-or-lt_of_le h)) (g d x);
-      others = λ d x. ⊎_elim (λ z. f d (inl z)) (λ h. f d (inr (omega arith))) (up-from x);
+      others = λ d x. ⊎_elim (λ z. f d (inl z)) (λ h. f d (inr (omega arith))) (up_from_lem x);
     },
-    lists-up n (suc k) (Earlier k) (omega arith) (omega arith) (from_up k i) (λ d x. up-from x),
+    lists_up n (suc k) (Earlier k) (omega arith) (omega arith) (from_up k i) (λ d x. up_from_lem x),
   )
 
-  choices-list : Lists (λ _. Unit {0}) (choices m)
+  choices_list : Lists (λ _. Unit {0}) (choices m)
   unfolding choices
-  choices-list = lists-up m 1 (λ _. Unit {0}) refl (omega arith) (λ d x. tt) (λ d x. some d)
+  choices_list = lists_up m 1 (λ _. Unit {0}) refl (omega arith) (λ d x. tt) (λ d x. some d)
     where
       some : (d : ℕ) → (d ≡ 0) ⊎ (1 ≤ d)
       some zero = inl refl
@@ -156,24 +156,24 @@ module _ (P : Problem) where
   abbrev told : List ℕ → Step
   told p = cond (eqb (length p) n) (leaf p) inner
 
-  told-into : (k : ℕ) (p : List ℕ) → length p + k ≡ n → stepInto k p ≡ told p
-  unfolding stepInto
+  told-into : (k : ℕ) (p : List ℕ) → length p + k ≡ n → step_into k p ≡ told p
+  unfolding step_into
   told-into zero p e = rw (eq-eqb (length p) n (omega arith))
   told-into (suc k) p e = rw (ne_eqb (length p) n (λ i. omega arith))
 
-  incumbent-is-bound : (b : ℕ) (steps : List (List ℕ)) → incumbentFrom P b steps ≡ boundAfter P b (map told steps)
-  unfolding incumbentFrom boundAfter
-  incumbent-is-bound b [] = refl
-  incumbent-is-bound b (p ∷ steps) = go (eqb (length p) n) refl (λ b'. incumbent-is-bound b' steps)
+  incumbent_is_bound : (b : ℕ) (steps : List (List ℕ)) → incumbent_from P b steps ≡ bound_after P b (map told steps)
+  unfolding incumbent_from bound_after
+  incumbent_is_bound b [] = refl
+  incumbent_is_bound b (p ∷ steps) = go (eqb (length p) n) refl (λ b'. incumbent_is_bound b' steps)
     where
-      go : (x : Bool) → eqb (length p) n ≡ x → ((b' : ℕ) → incumbentFrom P b' steps ≡ boundAfter P b' (map told steps))
-          → incumbentFrom P b (p ∷ steps) ≡ boundAfter P b (told p ∷ map told steps)
+      go : (x : Bool) → eqb (length p) n ≡ x → ((b' : ℕ) → incumbent_from P b' steps ≡ bound_after P b' (map told steps))
+          → incumbent_from P b (p ∷ steps) ≡ bound_after P b (told p ∷ map told steps)
       go true e rest =
-          rw e (ap (λ (b' : ℕ). incumbentFrom P b' steps) (sym (load-with P 0 p (omega (arith, eqb-true (length p) n e)))) ∙ rest (rejected P p))
+          rw e (ap (λ (b' : ℕ). incumbent_from P b' steps) (sym (load_with P 0 p (omega (arith, eqb-true (length p) n e)))) ∙ rest (rejected P p))
       go false e rest = rw e (rest b)
 
-  incumbent-append : (b : ℕ) (made more : List (List ℕ)) → incumbentFrom P b (made ++ more) ≡ incumbentFrom P (incumbentFrom P b made) more
-  unfolding incumbentFrom
+  incumbent-append : (b : ℕ) (made more : List (List ℕ)) → incumbent_from P b (made ++ more) ≡ incumbent_from P (incumbent_from P b made) more
+  unfolding incumbent_from
   incumbent-append b [] more = refl
   incumbent-append b (p ∷ made) more = incumbent-append _ made more
 
@@ -189,13 +189,13 @@ module _ (P : Problem) (positive : (k : ℕ) → k < length P.demands → 1 ≤ 
     past : (t s : List ℕ) → Among t made → R s → Sooner t s
 
   -- where R is a node's choices and what comes after the node, only the node's choices themselves may follow
-  next-choice : {made : List (List ℕ)} (p : List ℕ) {D : ℕ → Type 0} → At made (Region p D) → (s : List ℕ) → MayFollow P made s
+  next_choice : {made : List (List ℕ)} (p : List ℕ) {D : ℕ → Type 0} → At made (Region p D) → (s : List ℕ) → MayFollow P made s
       → ((d : ℕ) × (s ≡ p ++ (d ∷ [])) × D d × (d ≤ m) × Enters P p d (incumbent P made)) ⊎ Before p s
-  next-choice {made} p {D} a s y =
+  next_choice {made} p {D} a s y =
       ⊎_elim (λ x. ⊎_elim (λ i. inl (x.0, x.2 ∙ rw i.2, x.3, rw i.1 at y.core, rw (i.0, i.1) at y.enters))
       (λ i. absurd (⊎_elim
       (λ e. omega (arith, ap length i.1, ap length e, length-append p (x.0 ∷ i.0)))
-      (λ b. let z = a.past y.so_far y.so_far b (inl (x.0, i.0, i.1, x.3)) in sooner-asym _ _ z z)
+      (λ b. let z = a.past y.so_far y.so_far b (inl (x.0, i.0, i.1, x.3)) in sooner_asym _ _ z z)
       y.from))
       (all_but_last p x.0 x.1 y.so_far y.choice (sym x.2 ∙ y.is))) inr (a.coming s y)
 
@@ -217,7 +217,7 @@ module _ (P : Problem) (positive : (k : ℕ) → k < length P.demands → 1 ≤ 
   -- and of its choices cs, where they are those in D
   abbrev Tries : ℕ → List ℕ → List ℕ → (ℕ → Type 0) → Type 0
   Tries k p cs D = (made : List (List ℕ)) → Among p ([] ∷ made) → At made (Region p D)
-      → Walked made p (tryAll P k (λ p' b'. visit P k p' b') p cs (incumbent P made))
+      → Walked made p (try_all P k (λ p' b'. visit P k p' b') p cs (incumbent P made))
 
   -- one choice of a node
   module _ (k : ℕ) (visits : Visits k) (p : List ℕ) (short : length p + suc k ≡ n P) (c : ℕ) {D : ℕ → Type 0} (leads : Leads m D c)
@@ -236,9 +236,9 @@ module _ (P : Problem) (positive : (k : ℕ) → k < length P.demands → 1 ≤ 
         [],
         x.1,
         ⊎_elim (λ (z : x.0 ≡ c). absurd (true≢false
-            (sym ((entry-rule P positive p c (incumbent P made) (omega arith)).1 (rw z at x.4)) ∙ e))) (λ l. l) (leads.first x.0 x.2 x.3),
+            (sym ((entry_rule P positive p c (incumbent P made) (omega arith)).1 (rw z at x.4)) ∙ e))) (λ l. l) (leads.first x.0 x.2 x.3),
       ))
-          (λ b. b) (next-choice p a s y);
+          (λ b. b) (next_choice p a s y);
       past = λ t s i r. a.past t s i (widen r);
     }
 
@@ -252,12 +252,12 @@ module _ (P : Problem) (positive : (k : ℕ) → k < length P.demands → 1 ≤ 
         from = from;
         task = omega arith;
         core = leads.core;
-        enters = (entry-rule P positive p c (incumbent P made) (omega arith)).0 e;
+        enters = (entry_rule P positive p c (incumbent P made) (omega arith)).0 e;
         ahead = λ t i. a.past t q i (inl (c, [], refl, leads.self));
       };
       first = λ s y. ⊎_elim (λ x. ⊎_elim (λ (z : x.0 ≡ c). inl (rw (x.1, z)))
           (λ l. inr (inr (rw x.1 (before_at p [] [] l)))) (leads.first x.0 x.2 x.3))
-          (λ b. inr (inr (before_more b (c ∷ [])))) (next-choice p a s y);
+          (λ b. inr (inr (before_more b (c ∷ [])))) (next_choice p a s y);
     }
 
     abbrev below : List ℕ → ℕ → List Step
@@ -268,50 +268,50 @@ module _ (P : Problem) (positive : (k : ℕ) → k < length P.demands → 1 ≤ 
 
     begun : At made₁ (Region q (λ _. Unit {0}))
     begun = record {
-      coming = λ s y. ⊎_map (λ x. (x.0, x.1, x.2, tt)) (λ b. b) (y.ahead q (among-last q made));
-      past = λ t s i r. ⊎_elim (λ j. a.past t s j (outer r)) (λ (e : t ≡ q). rw e (⊎_map (λ x. (x.0, x.1, x.2)) (λ b. b) r)) (among-snoc t q made i);
+      coming = λ s y. ⊎_map (λ x. (x.0, x.1, x.2, tt)) (λ b. b) (y.ahead q (among_last q made));
+      past = λ t s i r. ⊎_elim (λ j. a.past t s j (outer r)) (λ (e : t ≡ q). rw e (⊎_map (λ x. (x.0, x.1, x.2)) (λ b. b) r)) (among_snoc t q made i);
     }
       where
         outer : {s : List ℕ} → Region q (λ _. Unit {0}) s → Region p D s
-        outer = ⊎_elim (λ x. inl (c, x.0 ∷ x.1, x.2 ∙ append_snoc p c _, leads.self)) (λ b. widen (before-snoc p c b))
+        outer = ⊎_elim (λ x. inl (c, x.0 ∷ x.1, x.2 ∙ append_snoc p c _, leads.self)) (λ b. widen (before_snoc p c b))
 
     -- the last task's choice changes the bound, and nothing is below it
     same-below : (j : ℕ) → k ≡ j → visit P j q (incumbent P made) ≡ visit P j q (incumbent P made₁)
-    unfolding visit incumbentFrom
+    unfolding visit incumbent_from
     same-below zero i = refl
     same-below (suc j) i =
         ap (λ (b : ℕ). visit P (suc j) q b) (sym (incumbent-append P _ made (q ∷ []) ∙ rw (ne_eqb (length q) (n P) (λ e. omega (arith, length-append p (c ∷ []))))))
 
     child : Walked made₁ q (visit P k q (incumbent P made₁))
-    child = visits q made₁ (omega (arith, length-append p (c ∷ []))) (inr (among-last q made)) begun
+    child = visits q made₁ (omega (arith, length-append p (c ∷ []))) (inr (among_last q made)) begun
 
     abbrev made₂ : List (List ℕ)
     made₂ = made₁ ++ child.steps
 
-    into-are : into k below p c (incumbent P made) ≡ map (told P) (q ∷ child.steps)
-    into-are = rw (told-into P k q (omega (arith, length-append p (c ∷ []))), same-below k refl, child.are)
+    into_are : into k below p c (incumbent P made) ≡ map (told P) (q ∷ child.steps)
+    into_are = rw (told-into P k q (omega (arith, length-append p (c ∷ []))), same-below k refl, child.are)
 
-    bound-is : boundAfter P (incumbent P made) (into k below p c (incumbent P made)) ≡ incumbent P made₂
-    bound-is =
-        rw (into-are, append_snoc made q child.steps)
-        (sym (incumbent-is-bound P (incumbent P made) (q ∷ child.steps)) ∙ sym (incumbent-append P _ made (q ∷ child.steps)))
+    bound_is : bound_after P (incumbent P made) (into k below p c (incumbent P made)) ≡ incumbent P made₂
+    bound_is =
+        rw (into_are, append_snoc made q child.steps)
+        (sym (incumbent_is_bound P (incumbent P made) (q ∷ child.steps)) ∙ sym (incumbent-append P _ made (q ∷ child.steps)))
 
     back : At made₂ (Region p (Earlier c))
     back = record {
-      coming = λ s y. before-snoc p c (child.after.coming s y);
-      past = λ t s i r. child.after.past t s i (snoc-before p c r);
+      coming = λ s y. before_snoc p c (child.after.coming s y);
+      past = λ t s i r. child.after.past t s i (snoc_before p c r);
     }
 
     still : Among p ([] ∷ made₂)
-    still = ⊎_map (λ i. i) (λ i. among-left p made₁ child.steps (among-left p made (q ∷ []) i)) from
+    still = ⊎_map (λ i. i) (λ i. among_left p made₁ child.steps (among_left p made (q ∷ []) i)) from
 
     -- with the steps of the choices after it
-    join : entered P p c (incumbent P made) ≡ true → (cs : List ℕ) → Walked made₂ p (tryAll P k below p cs (incumbent P made₂))
-        → Walked made p (tryAll P k below p (c ∷ cs) (incumbent P made))
+    join : entered P p c (incumbent P made) ≡ true → (cs : List ℕ) → Walked made₂ p (try_all P k below p cs (incumbent P made₂))
+        → Walked made p (try_all P k below p (c ∷ cs) (incumbent P made))
     join e cs w = record {
       steps = q ∷ (child.steps ++ w.steps);
-      are = try-enter P k below p c cs (incumbent P made) e
-          ∙ ap₂ (λ (x y : List Step). x ++ y) into-are (ap (λ (b : ℕ). tryAll P k below p cs b) bound-is ∙ w.are)
+      are = try_enter P k below p c cs (incumbent P made) e
+          ∙ ap₂ (λ (x y : List Step). x ++ y) into_are (ap (λ (b : ℕ). try_all P k below p cs b) bound_is ∙ w.are)
           ∙ sym (map-append (told P) (q ∷ child.steps) w.steps);
       after = rw whole at w.after;
       follow = λ later f. (
@@ -325,52 +325,52 @@ module _ (P : Problem) (positive : (k : ℕ) → k < length P.demands → 1 ≤ 
         whole = append_assoc made₁ child.steps w.steps ∙ append_snoc made q (child.steps ++ w.steps)
 
     tried-one : (x : Bool) → entered P p c (incumbent P made) ≡ x → (cs : List ℕ) → Tries k p cs (Earlier c)
-        → Walked made p (tryAll P k below p (c ∷ cs) (incumbent P made))
-    tried-one false e cs rest = rw (try-skip P k below p c cs (incumbent P made) e) (rest made from (passed e))
+        → Walked made p (try_all P k below p (c ∷ cs) (incumbent P made))
+    tried-one false e cs rest = rw (try_skip P k below p c cs (incumbent P made) e) (rest made from (passed e))
     tried-one true e cs rest = join e cs (rest made₂ still back)
 
   tried-all : (k : ℕ) → Visits k → (p : List ℕ) → length p + suc k ≡ n P → (cs : List ℕ) {D : ℕ → Type 0} → Lists m D cs → Tries k p cs D
-  unfolding tryAll
+  unfolding try_all
   tried-all k visits p short [] h made from a = no_steps (record {
-    coming = λ s y. ⊎_elim (λ x. absurd (h x.0 x.2 x.3)) (λ b. b) (next-choice p a s y);
+    coming = λ s y. ⊎_elim (λ x. absurd (h x.0 x.2 x.3)) (λ b. b) (next_choice p a s y);
     past = λ t s i b. a.past t s i (inr b);
   })
   tried-all k visits p short (c ∷ cs) h made from a =
       tried-one k visits p short c h.0 made from a (entered P p c (incumbent P made)) refl cs
       (tried-all k visits p short cs h.1)
 
-  visit-walked : (k : ℕ) → Visits k
+  visit_walked : (k : ℕ) → Visits k
   unfolding visit
-  visit-walked zero p made e from a = no_steps (record {
+  visit_walked zero p made e from a = no_steps (record {
     coming = λ s y. ⊎_elim
         (λ x. absurd (omega (arith, ap length (sym x.2 ∙ y.is), length-append p (x.0 ∷ x.1), length-append y.so_far (y.choice ∷ []), y.task)))
         (λ b. b) (a.coming s y);
     past = λ t s i b. a.past t s i (inr b);
   })
-  visit-walked (suc k) p made e from a = tried-all k (visit-walked k) p e (choices m) (choices-list m) made from a
+  visit_walked (suc k) p made e from a = tried-all k (visit_walked k) p e (choices m) (choices_list m) made from a
 
 -- ---- no other steps do
 
 module _ (P : Problem) where
-  next-unique : (made : List (List ℕ)) (s t : List ℕ) → Next P made s → Next P made t → s ≡ t
-  next-unique made s t x y =
-      ⊎_elim (λ e. e) (λ l. ⊎_elim sym (λ r. absurd (sooner-asym s t l r)) (y.first s x.may)) (x.first t y.may)
+  next_unique : (made : List (List ℕ)) (s t : List ℕ) → Next P made s → Next P made t → s ≡ t
+  next_unique made s t x y =
+      ⊎_elim (λ e. e) (λ l. ⊎_elim sym (λ r. absurd (sooner_asym s t l r)) (y.first s x.may)) (x.first t y.may)
 
-  follow-unique : (made a b : List (List ℕ)) → Follow P made a → Follow P made b → a ≡ b
-  follow-unique made [] [] x y = refl
-  follow-unique made [] (t ∷ b) x y = absurd (x t y.0.may)
-  follow-unique made (s ∷ a) [] x y = absurd (y s x.0.may)
-  follow-unique made (s ∷ a) (t ∷ b) x y =
-      let e = next-unique made s t x.0 y.0 in
-      rw e (ap (λ (l : List (List ℕ)). t ∷ l) (follow-unique (made ++ (t ∷ [])) a b (rw e at x.1) y.1))
+  follow_unique : (made a b : List (List ℕ)) → Follow P made a → Follow P made b → a ≡ b
+  follow_unique made [] [] x y = refl
+  follow_unique made [] (t ∷ b) x y = absurd (x t y.0.may)
+  follow_unique made (s ∷ a) [] x y = absurd (y s x.0.may)
+  follow_unique made (s ∷ a) (t ∷ b) x y =
+      let e = next_unique made s t x.0 y.0 in
+      rw e (ap (λ (l : List (List ℕ)). t ∷ l) (follow_unique (made ++ (t ∷ [])) a b (rw e at x.1) y.1))
 
 -- the steps of the walk follow from none, and no others do
-pub depth-first : (P : Problem) → ((k : ℕ) → k < length P.demands → 1 ≤ get_or P.demands k 0) → DepthFirst P
-unfolding trace incumbentFrom
-depth-first P positive = record {
+pub depth_first : (P : Problem) → ((k : ℕ) → k < length P.demands → 1 ≤ get_or P.demands k 0) → DepthFirst P
+unfolding trace incumbent_from
+depth_first P positive = record {
   steps = w.steps;
-  follow = from-none;
-  only = λ others f. follow-unique P [] others w.steps f from-none;
+  follow = from_none;
+  only = λ others f. follow_unique P [] others w.steps f from_none;
   walked = rw (total-all P) w.are;
 }
   where
@@ -380,8 +380,8 @@ depth-first P positive = record {
       past = λ t s i r. absurd i;
     }
 
-    w : Walked P positive [] [] (visit P (length P.demands) [] (allDemands P + 1))
-    w = visit-walked P positive (length P.demands) [] [] (omega arith) (inl refl) begin
+    w : Walked P positive [] [] (visit P (length P.demands) [] (all_demands P + 1))
+    w = visit_walked P positive (length P.demands) [] [] (omega arith) (inl refl) begin
 
-    from-none : Follow P [] w.steps
-    from-none = rw (append-nil w.steps) at (w.follow [] (λ s y. before-none (w.after.coming s y) refl))
+    from_none : Follow P [] w.steps
+    from_none = rw (append-nil w.steps) at (w.follow [] (λ s y. before-none (w.after.coming s y) refl))

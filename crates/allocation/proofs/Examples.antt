@@ -4,13 +4,13 @@ use mathlib.Core.Path.{◌≡◌, refl}
 use mathlib.Core.Bool.{Bool, true, false, xor}
 use mathlib.Core.List.{List, [], ◌∷◌, map}
 use lib.ListN.{length, replicate}
-use Rattle.numbers.specs.First.{first, firstFrom}
-use Rattle.numbers.specs.Sums.{sumOver}
-use Rattle.numbers.specs.Loads.{demandOn}
+use Rattle.numbers.specs.First.{first, first_from}
+use Rattle.numbers.specs.Sums.{sum_over}
+use Rattle.numbers.specs.Loads.{demand_on}
 use Rattle.affinity.specs.Permitted.{permitted}
-use Rattle.allocation.specs.Placement.{problemOf}
-use Rattle.allocation.specs.Rule.{twins, is_empty, someEmptyTwin, tried}
-use Rattle.allocation.specs.Walk.{WalkAnswer, answer, trace, stored, visit, tryAll, entered, boundAfter, storedAfter, stepInto, choices, up_from}
+use Rattle.allocation.specs.Placement.{problem_of}
+use Rattle.allocation.specs.Rule.{twins, is_empty, some_empty_twin, tried}
+use Rattle.allocation.specs.Walk.{WalkAnswer, answer, trace, stored, visit, try_all, entered, bound_after, stored_after, step_into, choices, up_from}
 
 record Example : Type 0 where
   capacity : ℕ
@@ -56,11 +56,11 @@ examples =
     ∷ []
 
 answered : Example → WalkAnswer
-answered x = answer (problemOf x.capacity x.cores x.demands x.affinity) x.limit
+answered x = answer (problem_of x.capacity x.cores x.demands x.affinity) x.limit
 
 expected : Example → WalkAnswer
 expected x = x.expected
 
-examples-hold : map answered examples ≡ map expected examples
-unfolding examples example tied reply answered expected answer trace stored visit tryAll entered twins is_empty someEmptyTwin tried xor first firstFrom permitted boundAfter storedAfter stepInto choices up_from demandOn sumOver
-examples-hold = refl
+examples_hold : map answered examples ≡ map expected examples
+unfolding examples example tied reply answered expected answer trace stored visit try_all entered twins is_empty some_empty_twin tried xor first first_from permitted bound_after stored_after step_into choices up_from demand_on sum_over
+examples_hold = refl

@@ -11,25 +11,25 @@ use lib.ListN.{length, get_or, take, set, replicate, length-append}
 use lib.Seq.{append_snoc, take_all, take_at}
 use borrow.Author.Tests.{lt-ltb, le-ltb}
 use Rattle.allocation.specs.Placement.{Problem, total, rejected, excess}
-use Rattle.allocation.specs.Walk.{Step, inner, boundAfter, storedAfter, entered, choices, triedBy, trace, stored, answer, WalkAnswer}
-use Rattle.allocation.proofs.Steps.{boundAfter-append, storedAfter-append}
-use Rattle.allocation.proofs.Remaining.{remaining, remaining-start, remaining-skip, remaining-leaf, remaining-descend, remaining-back, remaining-end, remaining-over, remaining-closed, remaining-take}
+use Rattle.allocation.specs.Walk.{Step, inner, bound_after, stored_after, entered, choices, tried_by, trace, stored, answer, WalkAnswer}
+use Rattle.allocation.proofs.Steps.{bound_after-append, stored_after-append}
+use Rattle.allocation.proofs.Remaining.{remaining, remaining_start, remaining_skip, remaining_leaf, remaining_descend, remaining_back, remaining_end, remaining_over, remaining_closed, remaining_take}
 
 -- `made` are the steps so far: they account for the bound, the stored placement and the step count.
 pub record Progress (P : Problem) (path : List ℕ) (d j b : ℕ) (best : List ℕ) (steps : ℕ) : Type 0 where
   pub made : List Step
   pub whole : trace P ≡ made ++ remaining P path d j b
   pub counts : length made ≡ steps
-  pub bounds : boundAfter P (total P + 1) made ≡ b
-  pub stores : storedAfter (replicate (length P.demands) 0) made ≡ best
+  pub bounds : bound_after P (total P + 1) made ≡ b
+  pub stores : stored_after (replicate (length P.demands) 0) made ≡ best
 
 module _ (P : Problem) where
   abbrev answered : List ℕ → ℕ → Bool → WalkAnswer
   answered best steps spent = record { placement = best; rejected = rejected P best; steps = steps; spent = spent }
 
   pub progress_start : (path : List ℕ) → 0 < length P.demands → Progress P path 0 0 (total P + 1) (replicate (length P.demands) 0) 0
-  unfolding boundAfter storedAfter
-  progress_start path h = record { made = []; whole = sym (remaining-start P path h); counts = refl; bounds = refl; stores = refl }
+  unfolding bound_after stored_after
+  progress_start path h = record { made = []; whole = sym (remaining_start P path h); counts = refl; bounds = refl; stores = refl }
 
   module _ {path : List ℕ} {d j b : ℕ} {best : List ℕ} {steps : ℕ} (r : Progress P path d j b best steps) where
     -- the state is another, and the same steps remain
@@ -43,23 +43,23 @@ module _ (P : Problem) where
     }
 
     -- only the choices made matter
-    pub progress-take : (path' : List ℕ) → take d path ≡ take d path' → Progress P path' d j b best steps
-    progress-take path' e = same (remaining-take P path path' d j b e)
+    pub progress_take : (path' : List ℕ) → take d path ≡ take d path' → Progress P path' d j b best steps
+    progress_take path' e = same (remaining_take P path path' d j b e)
 
     -- no choice improves on what is rejected already
-    pub progress-closed : b ≤ rejected P (take d path) → Progress P path d (P.cores + 1) b best steps
-    progress-closed h = same (remaining-closed P path d j b h)
+    pub progress_closed : b ≤ rejected P (take d path) → Progress P path d (P.cores + 1) b best steps
+    progress_closed h = same (remaining_closed P path d j b h)
 
     -- the next step, s, is made
     stepped : (s : Step) {path' : List ℕ} {d' j' b' : ℕ} {best' : List ℕ}
         → remaining P path d j b ≡ s ∷ remaining P path' d' j' b'
-        → boundAfter P b (s ∷ []) ≡ b' → storedAfter best (s ∷ []) ≡ best' → Progress P path' d' j' b' best' (suc steps)
+        → bound_after P b (s ∷ []) ≡ b' → stored_after best (s ∷ []) ≡ best' → Progress P path' d' j' b' best' (suc steps)
     stepped s e f g = record {
       made = r.made ++ (s ∷ []);
       whole = r.whole ∙ ap (λ (t : List Step). r.made ++ t) e ∙ sym (append_snoc r.made s _);
       counts = omega (arith, length-append r.made (s ∷ []), r.counts);
-      bounds = rw (boundAfter-append, r.bounds) f;
-      stores = rw (storedAfter-append, r.stores) g;
+      bounds = rw (bound_after-append, r.bounds) f;
+      stores = rw (stored_after-append, r.stores) g;
     }
 
     -- the answer, where the limit leaves the steps made
@@ -69,9 +69,9 @@ module _ (P : Problem) where
     answers limit e f g = rw (e, r.stores, f, g)
 
     -- the limit is reached, and the walk would go on
-    progress-spent : (limit : ℕ) → steps ≡ limit → (s : Step) (u : List Step) → remaining P path d j b ≡ s ∷ u
+    progress_spent : (limit : ℕ) → steps ≡ limit → (s : Step) (u : List Step) → remaining P path d j b ≡ s ∷ u
         → answer P limit ≡ answered best limit true
-    progress-spent limit e s u q =
+    progress_spent limit e s u q =
         let w : trace P ≡ r.made ++ (s ∷ u) = r.whole ∙ ap (λ (l : List Step). r.made ++ l) q in
         let l : limit < length (trace P) = omega (arith, ap length w, length-append r.made (s ∷ u), r.counts) in
         answers limit (ap (take limit) w ∙ take_at r.made (s ∷ u) limit (r.counts ∙ e)) (omega arith) (lt-ltb limit _ l)
@@ -83,44 +83,44 @@ module _ (P : Problem) where
 
       -- it is not entered
       pub progress_skip : entered P (take d path) c b ≡ false → Progress P path d (suc j) b best steps
-      progress_skip e = same (remaining-skip P path d j b within e)
+      progress_skip e = same (remaining_skip P path d j b within e)
 
       -- it is entered, and d is the last task
-      pub progress-leaf : suc d ≡ length P.demands → entered P (take d path) c b ≡ true
+      pub progress_leaf : suc d ≡ length P.demands → entered P (take d path) c b ≡ true
           → Progress P path d (suc j) (rejected P (take d path ++ (c ∷ []))) (take d path ++ (c ∷ [])) (suc steps)
-      unfolding boundAfter storedAfter
-      progress-leaf l e = stepped _ (remaining-leaf P path d j b within l e) refl refl
+      unfolding bound_after stored_after
+      progress_leaf l e = stepped _ (remaining_leaf P path d j b within l e) refl refl
 
       -- it is entered, and more tasks follow
-      pub progress-descend : d < length path → suc d < length P.demands → entered P (take d path) c b ≡ true
+      pub progress_descend : d < length path → suc d < length P.demands → entered P (take d path) c b ≡ true
           → Progress P (set path d c) (suc d) 0 b best (suc steps)
-      unfolding boundAfter storedAfter
-      progress-descend i l e = stepped inner (remaining-descend P path d j b within i l e) refl refl
+      unfolding bound_after stored_after
+      progress_descend i l e = stepped inner (remaining_descend P path d j b within i l e) refl refl
 
       -- it would be entered, and the limit is reached
-      pub progress-stop : (limit : ℕ) → d < length path → d < length P.demands → entered P (take d path) c b ≡ true → steps ≡ limit
+      pub progress_stop : (limit : ℕ) → d < length path → d < length P.demands → entered P (take d path) c b ≡ true → steps ≡ limit
           → answer P limit ≡ answered best limit true
-      progress-stop limit i l e f =
+      progress_stop limit i l e f =
           dite (ℕ_discrete (suc d) (length P.demands))
-          (λ q. progress-spent limit f _ _ (remaining-leaf P path d j b within q e))
-          (λ q. progress-spent limit f _ _ (remaining-descend P path d j b within i (omega arith) e))
+          (λ q. progress_spent limit f _ _ (remaining_leaf P path d j b within q e))
+          (λ q. progress_spent limit f _ _ (remaining_descend P path d j b within i (omega arith) e))
 
     -- nothing is left
-    progress-end : (limit : ℕ) → steps ≤ limit → remaining P path d j b ≡ [] → answer P limit ≡ answered best steps false
-    progress-end limit e q =
+    progress_end : (limit : ℕ) → steps ≤ limit → remaining P path d j b ≡ [] → answer P limit ≡ answered best steps false
+    progress_end limit e q =
         let w : trace P ≡ r.made = r.whole ∙ rw q (append-nil r.made) in
         let k : length (trace P) ≡ steps = ap length w ∙ r.counts in
         answers limit (take_all limit (trace P) (omega arith) ∙ w) (omega arith) (le-ltb limit _ (omega arith))
 
     -- all choices of the first task have been tried
-    pub progress-done : (limit : ℕ) → steps ≤ limit → d ≡ 0 → P.cores < j → answer P limit ≡ answered best steps false
-    progress-done limit e z h = progress-end limit e (rw z (remaining-end P path j b h))
+    pub progress_done : (limit : ℕ) → steps ≤ limit → d ≡ 0 → P.cores < j → answer P limit ≡ answered best steps false
+    progress_done limit e z h = progress_end limit e (rw z (remaining_end P path j b h))
 
     -- the stored placement rejects no more than the excess
-    pub progress-over : (limit : ℕ) → steps ≤ limit → b ≤ excess P → answer P limit ≡ answered best steps false
-    progress-over limit e h = progress-end limit e (remaining-over P path b h d j)
+    pub progress_over : (limit : ℕ) → steps ≤ limit → b ≤ excess P → answer P limit ≡ answered best steps false
+    progress_over limit e h = progress_end limit e (remaining_over P path b h d j)
 
   -- all choices of a later task have been tried
-  pub progress-back : {path : List ℕ} {d j b : ℕ} {best : List ℕ} {steps : ℕ} → Progress P path (suc d) j b best steps → P.cores < j
-      → Progress P path d (triedBy P.cores (get_or path d 0)) b best steps
-  progress-back {path} {d} {j} {b} r h = same r (remaining-back P path d j b h)
+  pub progress_back : {path : List ℕ} {d j b : ℕ} {best : List ℕ} {steps : ℕ} → Progress P path (suc d) j b best steps → P.cores < j
+      → Progress P path d (tried_by P.cores (get_or path d 0)) b best steps
+  progress_back {path} {d} {j} {b} r h = same r (remaining_back P path d j b h)

@@ -3,7 +3,7 @@
 use Rattle.std.specs.Prelude.{ℕ, ◌+◌, ◌≤◌, ◌<◌, ◌≡◌, cond, List, [], ◌∷◌, ◌++◌, map, ◌⊎◌, eqb, length}
 use Rattle.allocation.specs.Placement.{Problem}
 use Rattle.allocation.specs.Best.{Before}
-use Rattle.allocation.specs.EntryRule.{Enters, allDemands, demandsWith}
+use Rattle.allocation.specs.EntryRule.{Enters, all_demands, demands_with}
 use Rattle.allocation.specs.Walk.{inner, leaf, trace}
 
 -- depth first: a step comes before those that go on from it, and before those with a later choice where the two first differ
@@ -17,13 +17,13 @@ Among p (q ∷ steps) = (p ≡ q) ⊎ Among p steps
 
 module _ (P : Problem) where
   -- the incumbent bound after some steps, where it was b before them: the last task's choice makes it what that placement leaves out
-  unfoldable pub incumbentFrom : ℕ → List (List ℕ) → ℕ
-  incumbentFrom b [] = b
-  incumbentFrom b (p ∷ steps) = incumbentFrom (cond (eqb (length p) (length P.demands)) (demandsWith P 0 p) b) steps
+  unfoldable pub incumbent_from : ℕ → List (List ℕ) → ℕ
+  incumbent_from b [] = b
+  incumbent_from b (p ∷ steps) = incumbent_from (cond (eqb (length p) (length P.demands)) (demands_with P 0 p) b) steps
 
   -- it begins at all demands plus 1
   abbrev pub incumbent : List (List ℕ) → ℕ
-  incumbent made = incumbentFrom (allDemands P + 1) made
+  incumbent made = incumbent_from (all_demands P + 1) made
 
 -- The walk may go on with s, once the steps `made` have been made.
 pub record MayFollow (P : Problem) (made : List (List ℕ)) (s : List ℕ) : Type 0 where

@@ -12,20 +12,20 @@ abbrev pub Twins : Problem → ℕ → ℕ → Type 0
 Twins P c d = (k : ℕ) → k < length P.demands → permits P k c ≡ permits P k d
 
 -- the demands of all tasks, added up
-abbrev pub allDemands : Problem → ℕ
-allDemands P = sum_to (λ k. get_or P.demands k 0) (length P.demands)
+abbrev pub all_demands : Problem → ℕ
+all_demands P = sum_to (λ k. get_or P.demands k 0) (length P.demands)
 
 -- the demands of the tasks with choice c, added up: the load of core c, and for 0 what is left out
-abbrev pub demandsWith : Problem → ℕ → List ℕ → ℕ
-demandsWith P c p = sum_to (λ k. cond (eqb (get_or p k 0) c) (get_or P.demands k 0) 0) (length p)
+abbrev pub demands_with : Problem → ℕ → List ℕ → ℕ
+demands_with P c p = sum_to (λ k. cond (eqb (get_or p k 0) c) (get_or P.demands k 0) 0) (length p)
 
 -- The task after the choices p enters choice c, where the incumbent bound (the paper's mark to beat) is b.
 pub record Enters (P : Problem) (p : List ℕ) (c b : ℕ) : Type 0 where
   -- It may run on the core, whose load stays at most H with it.
-  pub fits : 1 ≤ c → (permits P (length p) c ≡ true) × (demandsWith P c p + get_or P.demands (length p) 0 ≤ P.capacity)
+  pub fits : 1 ≤ c → (permits P (length p) c ≡ true) × (demands_with P c p + get_or P.demands (length p) 0 ≤ P.capacity)
   -- What is left out so far, this choice included, is below the bound,
-  pub left_out : demandsWith P 0 (p ++ (c ∷ [])) < b
+  pub left_out : demands_with P 0 (p ++ (c ∷ [])) < b
   -- and so is the excess: all demands less m times H, or 0 if that is negative.
-  pub excess : allDemands P - P.cores * P.capacity < b
+  pub excess : all_demands P - P.cores * P.capacity < b
   -- If the core is empty, no lower-numbered core that is its twin is empty.
   pub lowest : Unused p c → (d : ℕ) → 1 ≤ d → d < c → Twins P c d → Unused p d → ⊥

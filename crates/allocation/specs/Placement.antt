@@ -1,6 +1,6 @@
 -- Placements of tasks on cores, and which of them are feasible.
 use Rattle.std.specs.Prelude.{ℕ, ◌*◌, ◌-◌, ◌≤◌, ◌<◌, ◌≡◌, Bool, true, List, length, get_or}
-use Rattle.numbers.specs.Loads.{demandOn, sum}
+use Rattle.numbers.specs.Loads.{demand_on, sum}
 use Rattle.numbers.specs.Rows.{entry}
 use Rattle.affinity.specs.Permitted.{permitted}
 
@@ -16,8 +16,8 @@ pub record Problem : Type 0 where
   pub affinity : List ℕ
 
 -- the problem that a capacity, a number of cores, the tasks' demands and their core bytes state
-abbrev pub problemOf : ℕ → ℕ → List ℕ → List ℕ → Problem
-problemOf capacity cores demands affinity = record { capacity = capacity; cores = cores; demands = demands; affinity = affinity }
+abbrev pub problem_of : ℕ → ℕ → List ℕ → List ℕ → Problem
+problem_of capacity cores demands affinity = record { capacity = capacity; cores = cores; demands = demands; affinity = affinity }
 
 -- whether a task may run on a core
 abbrev pub permits : Problem → ℕ → ℕ → Bool
@@ -28,11 +28,11 @@ permits P task core = permitted (entry P.affinity task) core
 module _ (P : Problem) where
   -- the load of core c
   abbrev pub load : ℕ → List ℕ → ℕ
-  load c p = demandOn c P.demands p
+  load c p = demand_on c P.demands p
 
   -- the rejected demand (the paper's left-out weight)
   abbrev pub rejected : List ℕ → ℕ
-  rejected p = demandOn 0 P.demands p
+  rejected p = demand_on 0 P.demands p
 
   -- the total demand
   abbrev pub total : ℕ

@@ -8,16 +8,16 @@ use Rattle.allocation.specs.Placement.{Problem, Feasible, load, rejected}
 use Rattle.allocation.specs.Best.{Earlier}
 
 -- a task tells two cores apart: by the row of core bytes it permits one of them and not the other
-abbrev pub tellsApart : List ℕ → ℕ → ℕ → ℕ → Bool
-tellsApart affinity c d task = xor (permitted (entry affinity task) c) (permitted (entry affinity task) d)
+abbrev pub tells_apart : List ℕ → ℕ → ℕ → ℕ → Bool
+tells_apart affinity c d task = xor (permitted (entry affinity task) c) (permitted (entry affinity task) d)
 
 -- two cores are twins: none of n tasks tells them apart, each permits both or neither
 unfoldable pub twins : List ℕ → ℕ → ℕ → ℕ → Bool
-twins affinity n c d = eqb (first (tellsApart affinity c d) n) 0
+twins affinity n c d = eqb (first (tells_apart affinity c d) n) 0
 
 -- the same of all tasks of a problem, those already placed too
-abbrev pub areTwins : Problem → ℕ → ℕ → Bool
-areTwins P c d = twins P.affinity (length P.demands) c d
+abbrev pub are_twins : Problem → ℕ → ℕ → Bool
+are_twins P c d = twins P.affinity (length P.demands) c d
 
 module _ (P : Problem) (p : List ℕ) where
   -- core c is empty once the choices p are made: it has no load
@@ -25,13 +25,13 @@ module _ (P : Problem) (p : List ℕ) where
   is_empty c = eqb (load P c p) 0
 
   -- one of the cores 1 to k is empty, and a twin of core c
-  unfoldable pub someEmptyTwin : ℕ → ℕ → Bool
-  someEmptyTwin c zero = false
-  someEmptyTwin c (suc k) = (is_empty (suc k) && areTwins P c (suc k)) || someEmptyTwin c k
+  unfoldable pub some_empty_twin : ℕ → ℕ → Bool
+  some_empty_twin c zero = false
+  some_empty_twin c (suc k) = (is_empty (suc k) && are_twins P c (suc k)) || some_empty_twin c k
 
   -- whether the walk looks at choice c of the task after p: at an empty core only if no lower-numbered empty core is its twin
   unfoldable pub tried : ℕ → Bool
-  tried c = not (is_empty c && someEmptyTwin c (pred c))
+  tried c = not (is_empty c && some_empty_twin c (pred c))
 
 -- An earlier choice for the task after p, and choices for the tasks after it, that reject no more than c and r do.
 pub record Replacement (P : Problem) (p : List ℕ) (c : ℕ) (r : List ℕ) : Type 0 where

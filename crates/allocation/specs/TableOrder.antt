@@ -6,8 +6,8 @@ use Rattle.allocation.specs.Best.{Before, BestBy}
 use Rattle.allocation.specs.Walk.{WalkAnswer, answer}
 
 -- the problem with its tasks in planning order
-abbrev pub inPlanningOrder : Problem → List ℕ → Problem
-inPlanningOrder T order = record {
+abbrev pub in_planning_order : Problem → List ℕ → Problem
+in_planning_order T order = record {
   capacity = T.capacity;
   cores = T.cores;
   demands = gather order T.demands;
@@ -27,5 +27,5 @@ abbrev pub in_table : List ℕ → WalkAnswer → WalkAnswer
 in_table order a = record { placement = scatter order a.placement; rejected = a.rejected; steps = a.steps; spent = a.spent }
 
 -- the answer for a table: that of the walk over its tasks in planning order
-unfoldable pub tableAnswer : Problem → List ℕ → ℕ → WalkAnswer
-tableAnswer T order limit = in_table order (answer (inPlanningOrder T order) limit)
+unfoldable pub table_answer : Problem → List ℕ → ℕ → WalkAnswer
+table_answer T order limit = in_table order (answer (in_planning_order T order) limit)

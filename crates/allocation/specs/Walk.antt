@@ -13,8 +13,8 @@ unfoldable pub choices : ℕ → List ℕ
 choices m = up_from 1 m ++ (0 ∷ [])
 
 -- how many choices have been tried once c has been
-unfoldable pub triedBy : ℕ → ℕ → ℕ
-triedBy m c = cond (eqb c 0) (m + 1) c
+unfoldable pub tried_by : ℕ → ℕ → ℕ
+tried_by m c = cond (eqb c 0) (m + 1) c
 
 -- A step is an entered choice: of the last task, which completes a placement that is then stored, or of one before it.
 pub data Step : Type 0 where
@@ -22,21 +22,21 @@ pub data Step : Type 0 where
   leaf : List ℕ → Step
 
 -- the step that makes the choices so far p, with k tasks still to place
-unfoldable pub stepInto : ℕ → List ℕ → Step
-stepInto zero p = leaf p
-stepInto (suc k) p = inner
+unfoldable pub step_into : ℕ → List ℕ → Step
+step_into zero p = leaf p
+step_into (suc k) p = inner
 
 -- the placement stored after some steps, where q was stored before them
-unfoldable pub storedAfter : List ℕ → List Step → List ℕ
-storedAfter q [] = q
-storedAfter q (inner ∷ t) = storedAfter q t
-storedAfter q (leaf p ∷ t) = storedAfter p t
+unfoldable pub stored_after : List ℕ → List Step → List ℕ
+stored_after q [] = q
+stored_after q (inner ∷ t) = stored_after q t
+stored_after q (leaf p ∷ t) = stored_after p t
 
 -- the incumbent bound (the paper's mark to beat) after some steps, where it was b before them
-unfoldable pub boundAfter : Problem → ℕ → List Step → ℕ
-boundAfter P b [] = b
-boundAfter P b (inner ∷ t) = boundAfter P b t
-boundAfter P b (leaf p ∷ t) = boundAfter P (rejected P p) t
+unfoldable pub bound_after : Problem → ℕ → List Step → ℕ
+bound_after P b [] = b
+bound_after P b (inner ∷ t) = bound_after P b t
+bound_after P b (leaf p ∷ t) = bound_after P (rejected P p) t
 
 -- no step completes a placement
 abbrev pub NoLeaf : List Step → Type 0
@@ -72,16 +72,16 @@ module _ (P : Problem) where
   entered p c bound = fits p c && tried P p c && improves p c bound
 
   -- the steps of trying the choices cs in turn; `below` gives those that follow an entered one, with k tasks still to place
-  unfoldable pub tryAll : ℕ → (List ℕ → ℕ → List Step) → List ℕ → List ℕ → ℕ → List Step
-  tryAll k below p [] bound = []
-  tryAll k below p (c ∷ cs) bound =
-      let t : List Step = elim (entered p c bound) [ true ↦ stepInto k (p ++ (c ∷ [])) ∷ below (p ++ (c ∷ [])) bound | false ↦ [] ] in
-      t ++ tryAll k below p cs (boundAfter P bound t)
+  unfoldable pub try_all : ℕ → (List ℕ → ℕ → List Step) → List ℕ → List ℕ → ℕ → List Step
+  try_all k below p [] bound = []
+  try_all k below p (c ∷ cs) bound =
+      let t : List Step = elim (entered p c bound) [ true ↦ step_into k (p ++ (c ∷ [])) ∷ below (p ++ (c ∷ [])) bound | false ↦ [] ] in
+      t ++ try_all k below p cs (bound_after P bound t)
 
   -- the steps that follow the choices p, with k tasks still to place
   unfoldable pub visit : ℕ → List ℕ → ℕ → List Step
   visit zero p bound = []
-  visit (suc k) p bound = tryAll k (λ p' b. visit k p' b) p (choices P.cores) bound
+  visit (suc k) p bound = try_all k (λ p' b. visit k p' b) p (choices P.cores) bound
 
   -- the complete walk: the bound begins at the total demand plus 1, and the root is no step
   unfoldable pub trace : List Step
@@ -89,7 +89,7 @@ module _ (P : Problem) where
 
   -- what is stored once the walk's first `limit` steps have been made: every task left out, if nothing was
   unfoldable pub stored : ℕ → List ℕ
-  stored limit = storedAfter (replicate (length P.demands) 0) (take limit trace)
+  stored limit = stored_after (replicate (length P.demands) 0) (take limit trace)
 
   -- the answer within a step limit: spent exactly if the complete walk has more steps than the limit
   unfoldable pub answer : ℕ → WalkAnswer

@@ -1,6 +1,6 @@
 -- What the benchmark of the tick returns: the sum of the tasks run and of the late tasks, so that no part of a tick can be left out.
 use Rattle.std.specs.Prelude.{ℕ, zero, suc, ◌+◌, ◌%◌, List, cond, ltb, replicate}
-use Rattle.oldform.specs.Form.{taskCount, everyAffinity}
+use Rattle.oldform.specs.Form.{task_count, every_affinity}
 use Rattle.oldform.specs.Limits.{beside}
 use Rattle.edf.specs.declared.Slot.{Slot}
 use Rattle.edf.specs.Tick.{TickAnswer, tick}
@@ -16,14 +16,14 @@ abbrev pub plus : ℕ → ℕ → ℕ
 plus sum task = (sum + task % 65536) % 4294967296
 
 -- the sum after some ticks of a record, where it was `sum` before them
-unfoldable pub sumOfTasks : ℕ → ℕ → List Slot → ℕ → ℕ
-sumOfTasks sum charge slots zero = sum
-sumOfTasks sum charge slots (suc ticks) =
+unfoldable pub sum_of_tasks : ℕ → ℕ → List Slot → ℕ → ℕ
+sum_of_tasks sum charge slots zero = sum
+sum_of_tasks sum charge slots (suc ticks) =
     let a : TickAnswer = tick charge slots full in
-    sumOfTasks (plus (plus sum a.run) a.late) a.charge a.slots ticks
+    sum_of_tasks (plus (plus sum a.run) a.late) a.charge a.slots ticks
 
 -- the sum for a table with every core permitted, and all its tasks on core 1 of a board with this charge; 0 for more than sixteen tasks
-unfoldable pub benchSum : List ℕ → ℕ → ℕ → ℕ
-benchSum table charge ticks =
-    let core : Core = (start_of (beside table charge (everyAffinity table)) (replicate (taskCount table) 1) 1).core in
-    cond (ltb 16 (taskCount table)) 0 (sumOfTasks 0 core.charge core.slots ticks)
+unfoldable pub bench_sum : List ℕ → ℕ → ℕ → ℕ
+bench_sum table charge ticks =
+    let core : Core = (start_of (beside table charge (every_affinity table)) (replicate (task_count table) 1) 1).core in
+    cond (ltb 16 (task_count table)) 0 (sum_of_tasks 0 core.charge core.slots ticks)

@@ -2,7 +2,7 @@
 ghost use Rattle.std.specs.Prelude.{◌≡◌, ◌<◌};
 ghost use Rattle.planner.specs.Plan.{plan_of};
 ghost use Rattle.oldform.specs.Limits.{beside};
-ghost use Rattle.bench_entry.specs.Ticks.{plus as plusOf, sumOfTasks, benchSum};
+ghost use Rattle.bench_entry.specs.Ticks.{plus as plus_of, sum_of_tasks, bench_sum};
 
 use runner::Core;
 
@@ -17,14 +17,14 @@ pub extern "C" fn bench_search(table: &[u8], charge: u32, cores: &[u8], limit: u
 // A sum with one task more, in 32 bits.
 fn plus(sum: u64, task: usize) -> u64
     requires { sum < 4294967296 }
-    ensures { result ≡ plusOf sum task }
+    ensures { result ≡ plus_of sum task }
 {
     (sum + (task % 65536) as u64) % 4294967296
 }
 
 // The sum of the tasks run and of the late tasks over some ticks of a record, each with full requests.
 fn sum_of_tasks(core: Core, ticks: u32) -> u64
-    ensures { result ≡ sumOfTasks 0 core.charge core.slots ticks }
+    ensures { result ≡ sum_of_tasks 0 core.charge core.slots ticks }
 {
     let requests = [4294967295u32; 16];
     let mut now = core;
@@ -45,7 +45,7 @@ fn sum_of_tasks(core: Core, ticks: u32) -> u64
 // tasks run and of the late tasks.
 #[unsafe(no_mangle)]
 pub extern "C" fn bench_tick(table: &[u8], charge: u32, ticks: u32) -> u64
-    ensures { result ≡ benchSum table.now charge ticks }
+    ensures { result ≡ bench_sum table.now charge ticks }
 {
     let n = wire::size(wire::byte(table, 0));
     if 16 < n {

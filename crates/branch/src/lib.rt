@@ -1,12 +1,12 @@
 // What counts as tried once a choice is taken back, and whether a core has room for a task.
 ghost use Rattle.std.specs.Prelude.{◌≡◌, cond, ◌&&◌, ◌+◌, ◌<◌, ◌≤◌, leb};
 ghost use Rattle.affinity.specs.Permitted.{permitted};
-ghost use Rattle.allocation.specs.Walk.{triedBy};
+ghost use Rattle.allocation.specs.Walk.{tried_by};
 
 // How many choices have been tried once c has been.
 fn tried_by(m: u32, c: u32) -> u32
     requires { m ≤ 4 }
-    ensures { result ≡ triedBy m c }
+    ensures { result ≡ tried_by m c }
 {
     if c == 0 { m + 1 } else { c }
 }
@@ -15,7 +15,7 @@ fn tried_by(m: u32, c: u32) -> u32
 // bound, since no choice rejects less.
 pub fn resume(m: u32, c: u32, out: u32, bound: u32) -> u32
     requires { m ≤ 4 }
-    ensures { result ≡ cond (leb bound out) (m + 1) (triedBy m c) }
+    ensures { result ≡ cond (leb bound out) (m + 1) (tried_by m c) }
 {
     if bound <= out {
         return m + 1;

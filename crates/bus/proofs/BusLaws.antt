@@ -4,95 +4,95 @@ use mathlib.Core.Path.{◌≡◌, refl, sym, ◌∙◌, ap}
 use mathlib.Core.List.{List, [], ◌∷◌, ◌++◌}
 use lib.ListN.{length, get_or}
 use native.Mathlib.Omega.{arith}
-use Rattle.refusal.specs.Tests.{◌then◌, inOrder}
+use Rattle.refusal.specs.Tests.{◌then◌, in_order}
 use Rattle.refusal.specs.Conditions.{Condition, None, Tested}
 use Rattle.refusal.specs.declared.Outcome.{Outcome}
 use Rattle.refusal.specs.declared.Outcome.TheVariants.{Accepted, Refused}
 use Rattle.refusal.specs.declared.Cause.{Cause}
-use Rattle.refusal.proofs.TestLaws.{then-then, then-again, each-accepts, inOrder-append, then-first, then-refused, then-accepted}
-use Rattle.refusal.proofs.ConditionLaws.{◌and◌, ◌also◌, no_more, join, tested-as, unnamed, unnamed-all}
-use Rattle.fields.specs.Tests.{chargeTest, periodsTest, budgetsTest, costsTest, rowTest, affinityTest, hyperperiodTest, limitTests}
-use Rattle.fields.specs.Limits.{Sized, Within, chargeAbove, periodOutside, budgetOutside, costAbove, rowOther, affinityUnfit, multipleAbove}
+use Rattle.refusal.proofs.TestLaws.{then_then, then_again, each_accepts, in_order-append, then_first, then_refused, then_accepted}
+use Rattle.refusal.proofs.ConditionLaws.{◌and◌, ◌also◌, no_more, join, tested_as, unnamed, unnamed_all}
+use Rattle.fields.specs.Tests.{charge_test, periods_test, budgets_test, costs_test, row_test, affinity_test, hyperperiod_test, limit_tests}
+use Rattle.fields.specs.Limits.{Sized, Within, charge_above, period_outside, budget_outside, cost_above, row_other, affinity_unfit, multiple_above}
 use Rattle.fields.specs.declared.Fields.{Fields}
-use Rattle.fields.proofs.LimitLaws.{charge-reported, periods-reported, within-kept, row-every}
-use Rattle.profile.specs.Tests.{periodUnlisted}
-use Rattle.profile.proofs.TestLaws.{list-reported, all_listed, never-above}
-use Rattle.taskset.specs.Reading.{readingBy}
+use Rattle.fields.proofs.LimitLaws.{charge_reported, periods_reported, within_kept, row_every}
+use Rattle.profile.specs.Tests.{period_unlisted}
+use Rattle.profile.proofs.TestLaws.{list_reported, all_listed, never_above}
+use Rattle.taskset.specs.Reading.{reading_by}
 use Rattle.taskset.specs.Table.{reading_of, Sound}
 use Rattle.taskset.specs.declared.Reading.{Reading}
 use Rattle.taskset.proofs.TableLaws.{after-tested}
 use Rattle.form.specs.Layout.{ReadsIn}
 use Rattle.form.proofs.LayoutLaws.{reads_in}
-use Rattle.form.proofs.ShapeLaws.{shape-tested}
-use Rattle.newform.specs.Form.{taskCount, newLength, newFields, NewForm}
-use Rattle.newform.specs.Limits.{newShape}
-use Rattle.newform.proofs.NewLaws.{front-tested, new-sized, new-form, new-bounded}
-use Rattle.bus.specs.Limits.{ValidBus, earlier, busConditions, frontTests, busTests, busOutcome, bus}
+use Rattle.form.proofs.ShapeLaws.{shape_tested}
+use Rattle.newform.specs.Form.{task_count, new_length, new_fields, NewForm}
+use Rattle.newform.specs.Limits.{new_shape}
+use Rattle.newform.proofs.NewLaws.{front-tested, new_sized, new_form, new_bounded}
+use Rattle.bus.specs.Limits.{ValidBus, earlier, bus_conditions, front_tests, bus_tests, bus_outcome, bus}
 
 -- all general limits behind numbers 13, 5 and 22: where these accept, 13 and 5 do the second time
-charge-again : (f : Fields) → inOrder (frontTests f) ≡ Accepted → chargeTest f ≡ Accepted
-charge-again f e = search (each-accepts (frontTests f) e)
+charge_again : (f : Fields) → in_order (front_tests f) ≡ Accepted → charge_test f ≡ Accepted
+charge_again f e = search (each_accepts (front_tests f) e)
 
-periods-again : (f : Fields) → inOrder (frontTests f) ≡ Accepted → periodsTest f ≡ Accepted
-periods-again f e = search (each-accepts (frontTests f) e)
+periods_again : (f : Fields) → in_order (front_tests f) ≡ Accepted → periods_test f ≡ Accepted
+periods_again f e = search (each_accepts (front_tests f) e)
 
-pub all-behind : (shape : Outcome) (f : Fields) → (shape then inOrder (frontTests f)) then inOrder (limitTests f) ≡ shape then inOrder (busTests f)
-unfolding inOrder
+pub all-behind : (shape : Outcome) (f : Fields) → (shape then in_order (front_tests f)) then in_order (limit_tests f) ≡ shape then in_order (bus_tests f)
+unfolding in_order
 all-behind shape f =
-    let rest : List Outcome = budgetsTest f ∷ costsTest f ∷ rowTest f ∷ affinityTest f ∷ hyperperiodTest f ∷ [] in
-    then-then shape _ _
-    ∙ ap (λ o. shape then o) (then-again _ _ _ (charge-again f) ∙ then-again _ _ _ (periods-again f) ∙ sym (inOrder-append (frontTests f) rest))
+    let rest : List Outcome = budgets_test f ∷ costs_test f ∷ row_test f ∷ affinity_test f ∷ hyperperiod_test f ∷ [] in
+    then_then shape _ _
+    ∙ ap (λ o. shape then o) (then_again _ _ _ (charge_again f) ∙ then_again _ _ _ (periods_again f) ∙ sym (in_order-append (front_tests f) rest))
 
 -- numbers 13, 5 and 22
-abbrev frontLimits : Fields → List Condition
-frontLimits f = chargeAbove f ∷ periodOutside f ∷ periodUnlisted f ∷ []
+abbrev front_limits : Fields → List Condition
+front_limits f = charge_above f ∷ period_outside f ∷ period_unlisted f ∷ []
 
-front-limits : (f : Fields) → Tested (None (frontLimits f)) (frontLimits f) (inOrder (frontTests f))
-unfolding inOrder
-front-limits f = record { reports = charge-reported f and periods-reported f and list-reported f and no_more; valid = (λ n. n, λ n. n) }
+front-limits : (f : Fields) → Tested (None (front_limits f)) (front_limits f) (in_order (front_tests f))
+unfolding in_order
+front-limits f = record { reports = charge_reported f and periods_reported f and list_reported f and no_more; valid = (λ n. n, λ n. n) }
 
 -- Of number 15 the length of the row of core bytes is not in question, and number 7 is ruled out by the list.
-pub bus-tested : (s : List ℕ) → Tested (ValidBus s) (busConditions s) (busOutcome s)
-unfolding busOutcome newShape newFields
+pub bus-tested : (s : List ℕ) → Tested (ValidBus s) (bus_conditions s) (bus_outcome s)
+unfolding bus_outcome new_shape new_fields
 bus-tested s =
-    let f : Fields = newFields s in
-    let first : List Condition = earlier s ++ periodUnlisted f ∷ [] in
-    unnamed (first ++ budgetOutside f ∷ costAbove f ∷ affinityUnfit f ∷ []) (multipleAbove f) [] (λ n. never-above f n.1.1.1.1.1.1.1.0)
-    (unnamed (first ++ budgetOutside f ∷ costAbove f ∷ []) (rowOther f) (affinityUnfit f ∷ multipleAbove f ∷ []) (λ n. row-every f refl)
-    (unnamed-all first (chargeAbove f ∷ periodOutside f ∷ []) (budgetOutside f ∷ costAbove f ∷ rowOther f ∷ affinityUnfit f ∷ multipleAbove f ∷ [])
+    let f : Fields = new_fields s in
+    let first : List Condition = earlier s ++ period_unlisted f ∷ [] in
+    unnamed (first ++ budget_outside f ∷ cost_above f ∷ affinity_unfit f ∷ []) (multiple_above f) [] (λ n. never_above f n.1.1.1.1.1.1.1.0)
+    (unnamed (first ++ budget_outside f ∷ cost_above f ∷ []) (row_other f) (affinity_unfit f ∷ multiple_above f ∷ []) (λ n. row_every f refl)
+    (unnamed_all first (charge_above f ∷ period_outside f ∷ []) (budget_outside f ∷ cost_above f ∷ row_other f ∷ affinity_unfit f ∷ multiple_above f ∷ [])
     (λ n. n.1.1.1.1.1.0 also n.1.1.1.1.1.1.0 also tt)
-    (tested-as {A = (((((4 ≤ length s) × (get_or s 0 0 ≡ 0)) × Sized f) × (length s ≡ newLength (taskCount s))) × None (frontLimits f)) × Within f} (
+    (tested_as {A = (((((4 ≤ length s) × (get_or s 0 0 ≡ 0)) × Sized f) × (length s ≡ new_length (task_count s))) × None (front_limits f)) × Within f} (
       λ v. record { general = record { first = v.0.0.0.0.1; exact = v.0.0.1; fields = v.1 }; listed = (all_listed f).0 v.0.1.1.1.0 },
       λ v.
           let w = v.general.fields in
-          let n = within-kept f w in
+          let n = within_kept f w in
           (((((omega (arith, v.general.exact), v.general.first), w.sizes), v.general.exact), (n.0 also n.1.0 also (all_listed f).1 v.listed also tt)), w),
     )
-    (rw (← all-behind (newShape s f) f) (after-tested f (λ v. v.0.0.1) (join (shape-tested (front-tested s) (newLength (taskCount s)) s f) (front-limits f)))))))
+    (rw (← all-behind (new_shape s f) f) (after-tested f (λ v. v.0.0.1) (join (shape_tested (front-tested s) (new_length (task_count s)) s f) (front-limits f)))))))
 
-pub bus-sound : (s : List ℕ) → Sound (bus s)
+pub bus_sound : (s : List ℕ) → Sound (bus s)
 unfolding bus
-bus-sound s = record { tested = bus-tested s; within = λ v. v.general.fields }
+bus_sound s = record { tested = bus-tested s; within = λ v. v.general.fields }
 
 -- ---- the steps of the reader
 
 -- the tests are joined in their order
-pub front-refused : {shape o : Outcome} {c : Cause} (f : Fields) → shape ≡ Refused c → o ≡ Refused c → o ≡ shape then inOrder (frontTests f)
-front-refused f e p = p ∙ sym (then-refused _ _ _ e)
+pub front_refused : {shape o : Outcome} {c : Cause} (f : Fields) → shape ≡ Refused c → o ≡ Refused c → o ≡ shape then in_order (front_tests f)
+front_refused f e p = p ∙ sym (then_refused _ _ _ e)
 
-pub front-accepted : {shape o : Outcome} (f : Fields) → shape ≡ Accepted → o ≡ inOrder (frontTests f) → o ≡ shape then inOrder (frontTests f)
-front-accepted f e p = p ∙ sym (then-first _ _ e)
+pub front_accepted : {shape o : Outcome} (f : Fields) → shape ≡ Accepted → o ≡ in_order (front_tests f) → o ≡ shape then in_order (front_tests f)
+front_accepted f e p = p ∙ sym (then_first _ _ e)
 
 -- where they accept, the sizes are right
-pub front-sized : (s : List ℕ) (f : Fields) {o shape : Outcome} → o ≡ shape then inOrder (frontTests f) → shape ≡ newShape s f → o ≡ Accepted → Sized f
-front-sized s f p q e = new-sized s f q (then-accepted _ _ (sym p ∙ e)).0
+pub front_sized : (s : List ℕ) (f : Fields) {o shape : Outcome} → o ≡ shape then in_order (front_tests f) → shape ≡ new_shape s f → o ≡ Accepted → Sized f
+front_sized s f p q e = new_sized s f q (then_accepted _ _ (sym p ∙ e)).0
 
 -- what is read by them is the table's reading
-pub bus-read : (s : List ℕ) {o shape : Outcome} {f : Fields} {r : Reading} → r ≡ readingBy (o then inOrder (limitTests f)) f → o ≡ shape then inOrder (frontTests f)
-    → shape ≡ newShape s f → f ≡ newFields s → r ≡ reading_of (bus s)
-unfolding reading_of bus busOutcome
-bus-read s {shape = shape} {f} h p q e = h ∙ ap (λ x. readingBy (x then inOrder (limitTests f)) f) p ∙ ap (λ x. readingBy x f) (all-behind shape f) ∙ rw (q, e)
+pub bus_read : (s : List ℕ) {o shape : Outcome} {f : Fields} {r : Reading} → r ≡ reading_by (o then in_order (limit_tests f)) f → o ≡ shape then in_order (front_tests f)
+    → shape ≡ new_shape s f → f ≡ new_fields s → r ≡ reading_of (bus s)
+unfolding reading_of bus bus_outcome
+bus_read s {shape = shape} {f} h p q e = h ∙ ap (λ x. reading_by (x then in_order (limit_tests f)) f) p ∙ ap (λ x. reading_by x f) (all-behind shape f) ∙ rw (q, e)
 
 pub bus-stored : (s : List ℕ) {r : Reading} → r ≡ reading_of (bus s) → ReadsIn NewForm s r
 unfolding bus
-bus-stored s e = reads_in (bus-sound s) s (λ v. new-form s v.general) (new-bounded s) e
+bus-stored s e = reads_in (bus_sound s) s (λ v. new_form s v.general) (new_bounded s) e

@@ -5,14 +5,14 @@ use Rattle.numbers.specs.First.{FirstAt}
 use Rattle.refusal.specs.Causes.{number_in}
 use Rattle.refusal.specs.Conditions.{None, Gives}
 use Rattle.refusal.specs.declared.Outcome.{Outcome}
-use Rattle.fields.specs.Fields.{periodAt}
+use Rattle.fields.specs.Fields.{period_at}
 use Rattle.taskset.specs.Table.{reading_of}
 use Rattle.taskset.specs.declared.Reading.{Reading}
-use Rattle.newform.specs.Form.{newFields}
+use Rattle.newform.specs.Form.{new_fields}
 use Rattle.newform.specs.Limits.{new}
-use Rattle.encoding.specs.Beside.{besideOf}
+use Rattle.encoding.specs.Beside.{beside_of}
 use Rattle.profile.specs.Periods.{Listed}
-use Rattle.planner.specs.Plan.{plan_of, verdictOutcome}
+use Rattle.planner.specs.Plan.{plan_of, verdict_outcome}
 use Rattle.planner.specs.declared.Allocation.{Allocation}
 use Rattle.bus.specs.Limits.{earlier, bus}
 
@@ -23,7 +23,7 @@ OneOf (n ∷ ns) number = (number ≡ n) ⊎ OneOf ns number
 
 -- None of numbers 1, 17, 2, 3, 4, 13 and 5 holds, and this task, from 1, is the first whose period is not so.
 abbrev pub FirstOther : (ℕ → Type 0) → List ℕ → ℕ → Type 0
-FirstOther Good s task = None (earlier s) × FirstAt (λ k. Good (periodAt (newFields s) k) → ⊥) (newFields s).n task
+FirstOther Good s task = None (earlier s) × FirstAt (λ k. Good (period_at (new_fields s) k) → ⊥) (new_fields s).n task
 
 -- What is promised of the outcome of a call on a table's bytes.
 pub record Profile (s : List ℕ) (outcome : Outcome) : Type 0 where
@@ -48,8 +48,8 @@ pub record BusReads (s : List ℕ) (r : Reading) : Type 0 where
 
 -- What is promised of a plan.
 pub record BusPlans (s : List ℕ) (limit : ℕ) (r : Allocation) : Type 0 where
-  pub outcome : Profile s (verdictOutcome r.verdict)
+  pub outcome : Profile s (verdict_outcome r.verdict)
   -- The reader and the planner refuse the same.
-  pub refuses : verdictOutcome r.verdict ≡ (reading_of (bus s)).outcome
+  pub refuses : verdict_outcome r.verdict ≡ (reading_of (bus s)).outcome
   -- For an accepted table the whole answer, steps too, is the exact planner's for the table in the old form with its charge and core bytes.
-  pub exact : number_in (verdictOutcome r.verdict) ≡ 0 → r ≡ plan_of (besideOf s) limit
+  pub exact : number_in (verdict_outcome r.verdict) ≡ 0 → r ≡ plan_of (beside_of s) limit

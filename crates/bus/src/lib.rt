@@ -1,15 +1,15 @@
 // The reader and the exact planner for bus drives: a table in the new form whose periods are all in the list of the drive-bus profile.
 ghost use Rattle.std.specs.Prelude.{◌≡◌};
-ghost use Rattle.refusal.specs.Tests.{◌then◌, inOrder};
+ghost use Rattle.refusal.specs.Tests.{◌then◌, in_order};
 ghost use Rattle.refusal.specs.declared.Outcome.TheVariants.{Accepted};
 ghost use Rattle.fields.specs.Limits.{Sized};
 ghost use Rattle.taskset.specs.Promise.{Reads};
 ghost use Rattle.taskset.specs.Table.{reading_of, Decided};
 ghost use Rattle.form.specs.Layout.{ReadsIn};
 ghost use Rattle.newform.specs.Form.{NewForm};
-ghost use Rattle.planner.specs.Plan.{plan_of, verdictOutcome};
+ghost use Rattle.planner.specs.Plan.{plan_of, verdict_outcome};
 ghost use Rattle.planner.specs.Promise.{Plans};
-ghost use Rattle.bus.specs.Limits.{frontTests, bus};
+ghost use Rattle.bus.specs.Limits.{front_tests, bus};
 ghost use Rattle.bus.specs.Promise.{BusReads, BusPlans};
 
 use fields::Fields;
@@ -20,7 +20,7 @@ use taskset::Reading;
 // The tests of a table's shape, then numbers 13, 5 and 22.
 fn front_tests(shape: Outcome, f: Fields) -> Outcome
     requires { shape ≡ Accepted → Sized f }
-    ensures { result ≡ shape then inOrder (frontTests f) }
+    ensures { result ≡ shape then in_order (front_tests f) }
 {
     match shape {
         Outcome::Refused(cause) => Outcome::Refused(cause),
@@ -52,7 +52,7 @@ pub fn read_bus(table: &[u8]) -> Reading
 // Plans a table for bus drives in at most `limit` steps: the exact planner's plan.
 pub fn plan_bus(table: &[u8], limit: u32) -> Allocation
     ensures answer { result ≡ plan_of (bus table.now) limit }
-    ensures decides { Decided (bus table.now) (verdictOutcome result.verdict) }
+    ensures decides { Decided (bus table.now) (verdict_outcome result.verdict) }
     ensures plans { Plans (bus table.now) limit result }
     ensures profile { BusPlans table.now limit result }
 {

@@ -6,12 +6,12 @@ use lib.ListN.{drop}
 use native.Mathlib.Omega.{arith}
 use native.Mathlib.Nat.{zero-add}
 use Rattle.edf.specs.declared.Slot.{Slot}
-use Rattle.caseblocks.specs.Blocks.{slotIn}
+use Rattle.caseblocks.specs.Blocks.{slot_in}
 use Rattle.wire.specs.Bytes.{le32, word_at}
 
 -- all bytes that were asked for were read
-pub block-kept : {r n : ℕ} (before after : List ℕ) → r ≤ n → n ≤ r → drop n after ≡ drop n before → drop r after ≡ drop r before
-block-kept {r} {n} before after h g p = let e : n ≡ r = omega arith in rw e at p
+pub block_kept : {r n : ℕ} (before after : List ℕ) → r ≤ n → n ≤ r → drop n after ≡ drop n before → drop r after ≡ drop r before
+block_kept {r} {n} before after h g p = let e : n ≡ r = omega arith in rw e at p
 
 -- a number of the block's front
 pub front-word : (s : List ℕ) (k : ℕ) {v : ℕ} → v ≡ le32 s (4 * k) → v ≡ word_at s 0 k
@@ -20,6 +20,6 @@ front-word s k e = rw zero-add e
 
 -- a slot's four numbers
 pub slot_read : (s : List ℕ) (k : ℕ) {p b u o : ℕ} → p ≡ le32 s (16 * k) → b ≡ le32 s (16 * k + 4) → u ≡ le32 s (16 * k + 8) → o ≡ le32 s (16 * k + 12)
-    → ◌≡◌ {A = Slot} (record { period = p; budget = b; until = u; remaining = o }) (slotIn s k)
-unfolding slotIn
+    → ◌≡◌ {A = Slot} (record { period = p; budget = b; until = u; remaining = o }) (slot_in s k)
+unfolding slot_in
 slot_read s k e f g h = λ i. record { period = e i; budget = f i; until = g i; remaining = h i }

@@ -6,13 +6,13 @@ use Rattle.wire.specs.Bytes.{le32}
 use Rattle.runs.specs.declared.Run.{Run}
 
 -- slot k of a record, from 0: period, budget, ticks until release, ticks owed
-unfoldable pub slotIn : List ℕ → ℕ → Slot
-slotIn bytes k = record { period = le32 bytes (16 * k); budget = le32 bytes (16 * k + 4); until = le32 bytes (16 * k + 8); remaining = le32 bytes (16 * k + 12) }
+unfoldable pub slot_in : List ℕ → ℕ → Slot
+slot_in bytes k = record { period = le32 bytes (16 * k); budget = le32 bytes (16 * k + 4); until = le32 bytes (16 * k + 8); remaining = le32 bytes (16 * k + 12) }
 
 -- a record of the run log: task, first tick, length
-abbrev pub runIn : List ℕ → Run
-runIn bytes = record { task = le32 bytes 0; first = le32 bytes 4; length = le32 bytes 8 }
+abbrev pub run_in : List ℕ → Run
+run_in bytes = record { task = le32 bytes 0; first = le32 bytes 4; length = le32 bytes 8 }
 
 -- the fields that are written: n, m, the charge and the rows as they are, and a core byte for each task
-abbrev pub fieldsIn : ℕ → ℕ → ℕ → List ℕ → List ℕ → List ℕ → Fields
-fieldsIn n m charge periods budgets affinity = record { n = n; m = m; charge = charge; periods = periods; budgets = budgets; affinity = affinity; given = n }
+abbrev pub fields_in : ℕ → ℕ → ℕ → List ℕ → List ℕ → List ℕ → Fields
+fields_in n m charge periods budgets affinity = record { n = n; m = m; charge = charge; periods = periods; budgets = budgets; affinity = affinity; given = n }

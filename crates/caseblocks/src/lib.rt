@@ -3,8 +3,8 @@ ghost use Rattle.std.specs.Prelude.{◌≡◌, ◌<◌, true, false, drop};
 ghost use Rattle.io.specs.Counts.{IsPrefixLen};
 ghost use Rattle.numbers.specs.Rows.{row};
 ghost use Rattle.wire.specs.Bytes.{word_at};
-ghost use Rattle.edf.specs.Slots.{emptySlot};
-ghost use Rattle.caseblocks.specs.Blocks.{slotIn, runIn, fieldsIn};
+ghost use Rattle.edf.specs.Slots.{empty_slot};
+ghost use Rattle.caseblocks.specs.Blocks.{slot_in, run_in, fields_in};
 
 use edf::Slot;
 use fields::Fields;
@@ -61,7 +61,7 @@ pub fn numbers_of(bytes: &[u8]) -> [u32; 16]
 // Slot `k` of a record's bytes.
 fn slot_in(bytes: &[u8], k: usize) -> Slot
     requires { k < 16 }
-    ensures { result ≡ slotIn bytes.now k }
+    ensures { result ≡ slot_in bytes.now k }
 {
     let period = wire::word(bytes, 16 * k);
     let budget = wire::word(bytes, 16 * k + 4);
@@ -77,7 +77,7 @@ fn slot_in(bytes: &[u8], k: usize) -> Slot
 
 // The sixteen slots of a record's bytes.
 pub fn slots_in(bytes: &[u8]) -> [Slot; 16]
-    ensures { result ≡ row emptySlot 16 (slotIn bytes.now) }
+    ensures { result ≡ row empty_slot 16 (slot_in bytes.now) }
 {
     let empty = slots::empty();
     let mut slots = [empty; 16];
@@ -91,7 +91,7 @@ pub fn slots_in(bytes: &[u8]) -> [Slot; 16]
 
 // The record of the run log that twelve bytes say.
 pub fn run_in(bytes: &[u8]) -> Run
-    ensures { result ≡ runIn bytes.now }
+    ensures { result ≡ run_in bytes.now }
 {
     let task = wire::word(bytes, 0);
     let first = wire::word(bytes, 4);
@@ -112,7 +112,7 @@ pub fn fields_in(
     budgets: [u32; 16],
     affinity: [u8; 16],
 ) -> Fields
-    ensures { result ≡ fieldsIn n m charge periods budgets affinity }
+    ensures { result ≡ fields_in n m charge periods budgets affinity }
 {
     Fields {
         n: n as usize,

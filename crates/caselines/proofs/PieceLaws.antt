@@ -11,15 +11,15 @@ use Rattle.decimal.specs.Joined.{fields}
 use Rattle.text.specs.Shown.{shown, Appended}
 use Rattle.text.specs.declared.Text.{Text}
 use Rattle.decimal.specs.Decimal.{field}
-use Rattle.text.proofs.ClipLaws.{append-both, append-whole}
+use Rattle.text.proofs.ClipLaws.{append_both, append_whole}
 use Rattle.refusal.specs.declared.Outcome.{Outcome}
 use Rattle.storing.specs.declared.Transfer.{Transfer}
-use Rattle.caselines.specs.Lines.{outcomeFields, answerStart, piece}
+use Rattle.caselines.specs.Lines.{outcome_fields, answer_start, piece}
 
-pub start-whole : {t a r : Text} (answer : Transfer) {o : Outcome} → shown t ≡ [] → answer.outcome ≡ o → Appended t (outcomeFields o) 41 a
-    → Appended a (field answer.length) 21 r → shown r ≡ answerStart answer
-unfolding answerStart
-start-whole answer z i p q = append-whole z (append-both (rw (sym i) at p) q) (omega arith)
+pub start_whole : {t a r : Text} (answer : Transfer) {o : Outcome} → shown t ≡ [] → answer.outcome ≡ o → Appended t (outcome_fields o) 41 a
+    → Appended a (field answer.length) 21 r → shown r ≡ answer_start answer
+unfolding answer_start
+start_whole answer z i p q = append_whole z (append_both (rw (sym i) at p) q) (omega arith)
 
 module _ (left : List ℕ) {n : ℕ} (e : n ≡ min (length left) 100) where
   -- there are as many bytes as make a piece
@@ -33,5 +33,5 @@ module _ (left : List ℕ) {n : ℕ} (e : n ≡ min (length left) 100) where
       (λ h. let f : n ≡ 100 = omega arith in ap (λ k. take k left) f)
 
   -- they fit a text
-  pub piece-whole : {t r : Text} → shown t ≡ [] → Appended t (fields (take n left)) (21 * length (take n left)) r → shown r ≡ piece left
-  piece-whole z p = append-whole z p (simp length-take (omega arith)) ∙ ap fields piece_is
+  pub piece_whole : {t r : Text} → shown t ≡ [] → Appended t (fields (take n left)) (21 * length (take n left)) r → shown r ≡ piece left
+  piece_whole z p = append_whole z p (simp length-take (omega arith)) ∙ ap fields piece_is

@@ -3,7 +3,7 @@
 // 64 bytes.
 ghost use Rattle.std.specs.Prelude.{◌≡◌};
 ghost use Rattle.text.specs.Shown.{shown};
-ghost use Rattle.caselines.specs.Lines.{coreLine, tickLine};
+ghost use Rattle.caselines.specs.Lines.{core_line, tick_line};
 
 use crate::lines;
 use runner::Ticked;
@@ -12,7 +12,7 @@ use text::Text;
 
 // The line of a fresh core.
 pub fn core_line(started: Started) -> Text
-    ensures { shown result ≡ coreLine started }
+    ensures { shown result ≡ core_line started }
 {
     let nothing = text::empty();
     let outcome = started.outcome;
@@ -24,7 +24,7 @@ pub fn core_line(started: Started) -> Text
 
 // The line of one of its ticks.
 pub fn tick_line(ticked: Ticked) -> Text
-    ensures { shown result ≡ tickLine ticked }
+    ensures { shown result ≡ tick_line ticked }
 {
     let nothing = text::empty();
     let outcome = ticked.outcome;

@@ -1,7 +1,7 @@
 // The pieces that lines share.
 ghost use Rattle.text.specs.Shown.{Appended};
 ghost use Rattle.decimal.specs.Joined.{joined, fields};
-ghost use Rattle.caselines.specs.Lines.{outcomeFields, slotFields, recordFields};
+ghost use Rattle.caselines.specs.Lines.{outcome_fields, slot_fields, record_fields};
 
 use edf::Slot;
 use refusal::Outcome;
@@ -10,7 +10,7 @@ use text::Text;
 
 // Number and place.
 pub fn append_outcome(t: Text, outcome: Outcome) -> Text
-    ensures { Appended t (outcomeFields outcome) 41 result }
+    ensures { Appended t (outcome_fields outcome) 41 result }
 {
     match outcome {
         Outcome::Accepted => text::append_bytes(t, b"0 0"),
@@ -44,7 +44,7 @@ pub fn append_cores(t: Text, cores: [u8; 16]) -> Text
 
 // Period, budget, ticks until release and ticks owed.
 fn append_slot(t: Text, s: Slot) -> Text
-    ensures { Appended t (slotFields s) 84 result }
+    ensures { Appended t (slot_fields s) 84 result }
 {
     let period = decimal::append_field(t, s.period as u64);
     let budget = decimal::append_field(period, s.budget as u64);
@@ -54,7 +54,7 @@ fn append_slot(t: Text, s: Slot) -> Text
 
 // Sixteen slots.
 fn append_slots(t: Text, slots: [Slot; 16]) -> Text
-    ensures { Appended t (joined slotFields slots) 1344 result }
+    ensures { Appended t (joined slot_fields slots) 1344 result }
 {
     let mut longer = t;
     let mut k = 0usize;
@@ -69,7 +69,7 @@ fn append_slots(t: Text, slots: [Slot; 16]) -> Text
 
 // A core record: its charge and its slots.
 pub fn append_record(t: Text, core: Core) -> Text
-    ensures { Appended t (recordFields core) 1365 result }
+    ensures { Appended t (record_fields core) 1365 result }
 {
     let charge = decimal::append_field(t, core.charge as u64);
     let slots = core.slots;

@@ -1,7 +1,7 @@
 // Codes 7 and 12: what the reader of the new form, or the bus reader, says of a table. Block: the table, up to 1,024 bytes.
 ghost use Rattle.std.specs.Prelude.{◌≡◌};
 ghost use Rattle.text.specs.Shown.{shown, Appended};
-ghost use Rattle.caselines.specs.Lines.{boardFields, rowFields, newLine};
+ghost use Rattle.caselines.specs.Lines.{board_fields, row_fields, new_line};
 
 use crate::lines;
 use fields::Fields;
@@ -10,7 +10,7 @@ use text::Text;
 
 // n, m, the charge and the hyperperiod.
 fn append_board(text: Text, t: TaskSet) -> Text
-    ensures { Appended text (boardFields t) 84 result }
+    ensures { Appended text (board_fields t) 84 result }
 {
     let n = decimal::append_field(text, t.fields.n as u64);
     let m = decimal::append_field(n, t.fields.m as u64);
@@ -20,7 +20,7 @@ fn append_board(text: Text, t: TaskSet) -> Text
 
 // Periods, budgets and core bytes.
 fn append_rows(text: Text, f: Fields) -> Text
-    ensures { Appended text (rowFields f) 1008 result }
+    ensures { Appended text (row_fields f) 1008 result }
 {
     let periods = f.periods;
     let budgets = f.budgets;
@@ -32,7 +32,7 @@ fn append_rows(text: Text, f: Fields) -> Text
 
 // The line of a reading.
 pub fn new_line(r: Reading) -> Text
-    ensures { shown result ≡ newLine r }
+    ensures { shown result ≡ new_line r }
 {
     let nothing = text::empty();
     let outcome = r.outcome;

@@ -1,7 +1,7 @@
 // Code 11: the check of a dependency list beside a table. Blocks: the table, in the new form, and the list, up to 1,024 bytes each.
 ghost use Rattle.std.specs.Prelude.{◌≡◌};
 ghost use Rattle.text.specs.Shown.{shown};
-ghost use Rattle.caselines.specs.Lines.{orderLine};
+ghost use Rattle.caselines.specs.Lines.{order_line};
 
 use crate::lines;
 use dependencies::TaskOrder;
@@ -9,7 +9,7 @@ use text::Text;
 
 // The line of an order of the tasks.
 pub fn order_line(answer: TaskOrder) -> Text
-    ensures { shown result ≡ orderLine answer }
+    ensures { shown result ≡ order_line answer }
 {
     let nothing = text::empty();
     let outcome = answer.outcome;

@@ -7,7 +7,7 @@
 ghost use Rattle.std.specs.Prelude.{◌≡◌, min, ◌*◌, length};
 ghost use Rattle.text.specs.Shown.{shown, Appended};
 ghost use Rattle.decimal.specs.Joined.{fields};
-ghost use Rattle.caselines.specs.Lines.{answerStart, piece as piece_of};
+ghost use Rattle.caselines.specs.Lines.{answer_start, piece as piece_of};
 
 use crate::lines;
 use storing::Transfer;
@@ -15,7 +15,7 @@ use text::Text;
 
 // The start of the line: number, place and length.
 pub fn answer_start(answer: Transfer) -> Text
-    ensures { shown result ≡ answerStart answer }
+    ensures { shown result ≡ answer_start answer }
 {
     let nothing = text::empty();
     let outcome = answer.outcome;

@@ -2,7 +2,7 @@
 // the step limit, 4 bytes. Code 13: that of a table for bus drives. Blocks: the table, in the new form, and the step limit.
 ghost use Rattle.std.specs.Prelude.{◌≡◌};
 ghost use Rattle.text.specs.Shown.{shown};
-ghost use Rattle.caselines.specs.Lines.{verdictNumber, planLine};
+ghost use Rattle.caselines.specs.Lines.{verdict_number, plan_line};
 
 use crate::lines;
 use planner::{Allocation, Verdict};
@@ -10,7 +10,7 @@ use text::Text;
 
 // 0 all, 1 short, 2 spent; 0 if refused.
 fn verdict_number(verdict: Verdict) -> u64
-    ensures { result ≡ verdictNumber verdict }
+    ensures { result ≡ verdict_number verdict }
 {
     match verdict {
         Verdict::All => 0,
@@ -22,7 +22,7 @@ fn verdict_number(verdict: Verdict) -> u64
 
 // The line of a plan.
 pub fn plan_line(plan: Allocation) -> Text
-    ensures { shown result ≡ planLine plan }
+    ensures { shown result ≡ plan_line plan }
 {
     let nothing = text::empty();
     let verdict = plan.verdict;

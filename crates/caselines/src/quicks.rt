@@ -1,7 +1,7 @@
 // Code 5: the quick plan of a table. Blocks: the table, up to 1,024 bytes; the charge, 4 bytes; the core bytes, up to 1,024 bytes.
 ghost use Rattle.std.specs.Prelude.{◌≡◌};
 ghost use Rattle.text.specs.Shown.{shown};
-ghost use Rattle.caselines.specs.Lines.{quickLine};
+ghost use Rattle.caselines.specs.Lines.{quick_line};
 
 use crate::lines;
 use quick::QuickPlan;
@@ -9,7 +9,7 @@ use text::Text;
 
 // The line of a quick plan.
 pub fn quick_line(plan: QuickPlan) -> Text
-    ensures { shown result ≡ quickLine plan }
+    ensures { shown result ≡ quick_line plan }
 {
     let nothing = text::empty();
     let outcome = plan.outcome;

@@ -1,7 +1,7 @@
 // Code 4: one tick of a given record. Blocks: its charge, 4 bytes; its slots, 256 bytes; sixteen requests, 64 bytes.
 ghost use Rattle.std.specs.Prelude.{◌≡◌};
 ghost use Rattle.text.specs.Shown.{shown};
-ghost use Rattle.caselines.specs.Lines.{recordLine};
+ghost use Rattle.caselines.specs.Lines.{record_line};
 
 use crate::lines;
 use runner::Ticked;
@@ -9,7 +9,7 @@ use text::Text;
 
 // The line of a tick, with the record handed back.
 pub fn record_line(ticked: Ticked) -> Text
-    ensures { shown result ≡ recordLine ticked }
+    ensures { shown result ≡ record_line ticked }
 {
     let nothing = text::empty();
     let outcome = ticked.outcome;

@@ -2,7 +2,7 @@
 ghost use Rattle.std.specs.Prelude.{◌≡◌, ◌+◌, ◌≤◌, ◌<◌};
 ghost use Rattle.reorder.specs.Listed.{Listed};
 ghost use Rattle.text.specs.Shown.{shown, Appended};
-ghost use Rattle.caselines.specs.Lines.{sizeFields, taskNumbers, taskFields, tableLine};
+ghost use Rattle.caselines.specs.Lines.{size_fields, task_numbers, task_fields, table_line};
 
 use crate::lines;
 use taskset::{Reading, TaskSet};
@@ -19,7 +19,7 @@ fn task_number(task: usize) -> u32
 // The tasks of an order by their numbers, from 1; zeros beyond n.
 fn order_numbers(order: [usize; 16], n: usize) -> [u32; 16]
     requires { Listed order n }
-    ensures { result ≡ taskNumbers order n }
+    ensures { result ≡ task_numbers order n }
 {
     let mut numbers = [0u32; 16];
     let mut k = 0;
@@ -31,7 +31,7 @@ fn order_numbers(order: [usize; 16], n: usize) -> [u32; 16]
 }
 
 fn append_sizes(text: Text, t: TaskSet) -> Text
-    ensures { Appended text (sizeFields t) 63 result }
+    ensures { Appended text (size_fields t) 63 result }
 {
     let n = decimal::append_field(text, t.fields.n as u64);
     let m = decimal::append_field(n, t.fields.m as u64);
@@ -41,7 +41,7 @@ fn append_sizes(text: Text, t: TaskSet) -> Text
 // Periods, budgets, demands and planning order.
 fn append_tasks(text: Text, t: TaskSet) -> Text
     requires { t.fields.n ≤ 16 }
-    ensures { Appended text (taskFields t) 1344 result }
+    ensures { Appended text (task_fields t) 1344 result }
 {
     let periods = t.fields.periods;
     let budgets = t.fields.budgets;
@@ -57,7 +57,7 @@ fn append_tasks(text: Text, t: TaskSet) -> Text
 // The line of a reading.
 pub fn table_line(r: Reading) -> Text
     requires { r.tasks.fields.n ≤ 16 }
-    ensures { shown result ≡ tableLine r }
+    ensures { shown result ≡ table_line r }
 {
     let nothing = text::empty();
     let outcome = r.outcome;

@@ -2,7 +2,7 @@
 // A case is its code in one byte, then its blocks. Each code has a file in `caselines`, which names its blocks.
 ghost use Rattle.std.specs.Prelude.{◌≤◌, length};
 ghost use Rattle.io.specs.Counts.{IsPrefixLen};
-ghost use Rattle.logwords.specs.Words.{recordsIn};
+ghost use Rattle.logwords.specs.Words.{records_in};
 
 use caseblocks::Block;
 use fields::Fields;
@@ -300,7 +300,7 @@ fn show_answer(answer: Logged) -> bool {
 
 // Reads `n` records into a row of numbers; false where the input ends before.
 fn read_runs(words: &mut [u32], n: usize) -> bool
-    requires { n ≤ length (recordsIn words.old) }
+    requires { n ≤ length (records_in words.old) }
 {
     let mut k: usize = 0;
     while k < n {

@@ -2,37 +2,37 @@
 use Rattle.std.specs.Prelude.{ℕ, List}
 use Rattle.numbers.specs.Reorder.{gather}
 use Rattle.numbers.specs.Rows.{tab}
-use Rattle.refusal.specs.Tests.{byOutcome}
+use Rattle.refusal.specs.Tests.{by_outcome}
 use Rattle.refusal.specs.declared.Cause.{Cause}
 use Rattle.refusal.specs.declared.Outcome.{Outcome}
 use Rattle.refusal.specs.declared.Outcome.TheVariants.{Accepted, Refused}
-use Rattle.fields.specs.Fields.{affinityAt}
+use Rattle.fields.specs.Fields.{affinity_at}
 use Rattle.fields.specs.declared.Fields.{Fields}
 use Rattle.taskset.specs.Table.{Table}
 use Rattle.planning.specs.Problem.{order_of}
-use Rattle.products.specs.Products.{someTied, factorFor, sumOfProducts}
+use Rattle.products.specs.Products.{some_tied, factor_for, sum_of_products}
 use Rattle.ceiling.specs.declared.StepCeiling.{StepCeiling}
 
 -- the core bytes of the tasks in planning order
-abbrev pub plannedBytes : Fields → List ℕ
-plannedBytes f = gather (order_of f) (tab f.n (affinityAt f))
+abbrev pub planned_bytes : Fields → List ℕ
+planned_bytes f = gather (order_of f) (tab f.n (affinity_at f))
 
 -- the step ceiling of fields within the limits
-unfoldable pub stepCeiling : Fields → ℕ
-stepCeiling f = sumOfProducts (factorFor (someTied (plannedBytes f) f.n f.m) (plannedBytes f) f.m) f.n
+unfoldable pub step_ceiling : Fields → ℕ
+step_ceiling f = sum_of_products (factor_for (some_tied (planned_bytes f) f.n f.m) (planned_bytes f) f.m) f.n
 
 -- the answer for fields within the limits
-unfoldable pub ceilingFor : Fields → StepCeiling
-ceilingFor f = record { outcome = Accepted; ceiling = stepCeiling f }
+unfoldable pub ceiling_for : Fields → StepCeiling
+ceiling_for f = record { outcome = Accepted; ceiling = step_ceiling f }
 
 -- a refused table has ceiling 0
-unfoldable pub refusedCeiling : Cause → StepCeiling
-refusedCeiling cause = record { outcome = Refused cause; ceiling = 0 }
+unfoldable pub refused_ceiling : Cause → StepCeiling
+refused_ceiling cause = record { outcome = Refused cause; ceiling = 0 }
 
 -- the answer by the outcome of a table's tests and by its fields
-unfoldable pub ceilingBy : Outcome → Fields → StepCeiling
-ceilingBy = byOutcome refusedCeiling ceilingFor
+unfoldable pub ceiling_by : Outcome → Fields → StepCeiling
+ceiling_by = by_outcome refused_ceiling ceiling_for
 
 -- the answer for a table
-unfoldable pub ceilingOf : Table → StepCeiling
-ceilingOf t = ceilingBy t.outcome t.fields
+unfoldable pub ceiling_of : Table → StepCeiling
+ceiling_of t = ceiling_by t.outcome t.fields

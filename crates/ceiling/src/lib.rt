@@ -3,7 +3,7 @@ ghost use Rattle.std.specs.Prelude.{◌≡◌};
 ghost use Rattle.taskset.specs.Promise.{Checked, Reads};
 ghost use Rattle.taskset.specs.Table.{Decided};
 ghost use Rattle.oldform.specs.Limits.{beside};
-ghost use Rattle.ceiling.specs.Ceiling.{stepCeiling, ceilingBy, ceilingOf};
+ghost use Rattle.ceiling.specs.Ceiling.{step_ceiling, ceiling_by, ceiling_of};
 ghost use Rattle.ceiling.specs.Promise.{Promise};
 
 use refusal::Outcome;
@@ -19,7 +19,7 @@ pub struct StepCeiling {
 // The step ceiling of a checked task set: its tasks' core bytes count in planning order.
 fn ceiling_of(t: TaskSet) -> u64
     requires { Checked t }
-    ensures { result ≡ stepCeiling t.fields }
+    ensures { result ≡ step_ceiling t.fields }
 {
     let n = t.fields.n;
     let order = ordering::planning_order(t);
@@ -32,7 +32,7 @@ fn ceiling_of(t: TaskSet) -> u64
 // The step ceiling of a table that was read, whatever its stored form.
 pub fn ceiling_read(reading: Reading) -> StepCeiling
     requires { Reads reading }
-    ensures { result ≡ ceilingBy reading.outcome reading.tasks.fields }
+    ensures { result ≡ ceiling_by reading.outcome reading.tasks.fields }
 {
     let outcome = reading.outcome;
     match outcome {
@@ -52,7 +52,7 @@ pub fn ceiling_read(reading: Reading) -> StepCeiling
 
 // The step ceiling of a stored table on a board with this charge and with these core bytes, to set the exact planner's limit by.
 pub fn step_ceiling(table: &[u8], charge: u32, affinity: &[u8]) -> StepCeiling
-    ensures answer { result ≡ ceilingOf (beside table.now charge affinity.now) }
+    ensures answer { result ≡ ceiling_of (beside table.now charge affinity.now) }
     ensures decides { Decided (beside table.now charge affinity.now) result.outcome }
     ensures promise { Promise (beside table.now charge affinity.now) result }
 {

@@ -9,19 +9,19 @@ use Rattle.io.specs.Digits.{hex_digit_ascii}
 use Rattle.decimal.proofs.DecimalLaws.{decimal-one, decimal-more}
 use Rattle.console.specs.Digits.{KitDigits}
 
-glyph-digit : (n : ℕ) → hex_digit_ascii (n % 10) ≡ 48 + n % 10
-glyph-digit n = rw (lt-ltb (n % 10) 10 (omega arith))
+glyph_digit : (n : ℕ) → hex_digit_ascii (n % 10) ≡ 48 + n % 10
+glyph_digit n = rw (lt-ltb (n % 10) 10 (omega arith))
 
-pub kit-digits : KitDigits
-kit-digits n zero f = absurd (omega (arith, f.0))
-kit-digits n (suc zero) f = rw (decimal-one n (omega (arith, f.1)), glyph-digit n)
-kit-digits n (suc (suc k)) f =
+pub kit_digits : KitDigits
+kit_digits n zero f = absurd (omega (arith, f.0))
+kit_digits n (suc zero) f = rw (decimal-one n (omega (arith, f.1)), glyph_digit n)
+kit_digits n (suc (suc k)) f =
     let e : suc (suc k) - 1 ≡ suc k = omega arith in
     let low : 10 ^ suc k ≤ n = rw e at (f.2 (omega arith)) in
     let high : n < 10 * 10 ^ suc k = rw (pow-succ' 10 (suc k)) at f.1 in
     let low' : 10 * 10 ^ k ≤ n = rw (pow-succ' 10 k) at low in
     let some : 1 ≤ 10 ^ k = one-le-pow k 10 (omega arith) in
-    rw (decimal-more n (omega arith), glyph-digit n)
+    rw (decimal-more n (omega arith), glyph_digit n)
     (ap (λ l. l ++ ((48 + n % 10) ∷ []))
-    (kit-digits (n / 10) (suc k)
+    (kit_digits (n / 10) (suc k)
     (omega arith, omega arith, λ h. let d : suc k - 1 ≡ k = omega arith in rw d (omega arith))))

@@ -10,23 +10,23 @@ use Rattle.text.specs.declared.Text.{Text}
 use Rattle.console.specs.Written.{Took}
 
 -- a text shows as many as its length says
-pub short-shown : (t : Text) → length t.bytes ≡ 2560 → t.length < 2560 → t.length ≡ length (shown t)
+pub short_shown : (t : Text) → length t.bytes ≡ 2560 → t.length < 2560 → t.length ≡ length (shown t)
 unfolding shown
-short-shown t l h = simp length-take (omega arith)
+short_shown t l h = simp length-take (omega arith)
 
 -- or all that it has
-pub long-shown : (t : Text) → length t.bytes ≡ 2560 → 2560 ≤ t.length → 2560 ≡ length (shown t)
+pub long_shown : (t : Text) → length t.bytes ≡ 2560 → 2560 ≤ t.length → 2560 ≡ length (shown t)
 unfolding shown
-long-shown t l h = simp length-take (omega arith)
+long_shown t l h = simp length-take (omega arith)
 
 -- no more than it has
-pub shown-within : (t : Text) → length (shown t) ≤ length t.bytes
+pub shown_within : (t : Text) → length (shown t) ≤ length t.bytes
 unfolding shown
-shown-within t = simp length-take (omega arith)
+shown_within t = simp length-take (omega arith)
 
 -- what the output took of a front
-pub in-front : (l : List ℕ) {n r : ℕ} → r ≤ length (take n l) → r ≤ n
-in-front l {n = n} h = let e = length-take n l in omega (arith, h, e)
+pub in_front : (l : List ℕ) {n r : ℕ} → r ≤ length (take n l) → r ≤ n
+in_front l {n = n} h = let e = length-take n l in omega (arith, h, e)
 
 -- taken out of the n bytes that are shown
 pub took_of : {bytes : List ℕ} {taken n : ℕ} → n ≡ length bytes → taken ≤ n → Took bytes record { taken = taken; whole = eqb taken n }

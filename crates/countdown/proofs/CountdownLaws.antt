@@ -4,10 +4,10 @@ use mathlib.Core.Path.{◌≡◌}
 use Rattle.edf.specs.declared.Slot.{Slot}
 use Rattle.edf.specs.Tick.{ran, advanced}
 
-pub advanced-by : (s : Slot) {until : ℕ} → until ≡ s.until - 1
+pub advanced_by : (s : Slot) {until : ℕ} → until ≡ s.until - 1
     → record { period = s.period; budget = s.budget; until = until; remaining = s.remaining } ≡ advanced s
-advanced-by s e = λ i. record { period = s.period; budget = s.budget; until = e i; remaining = s.remaining }
+advanced_by s e = λ i. record { period = s.period; budget = s.budget; until = e i; remaining = s.remaining }
 
-pub ran-by : (s : Slot) {remaining : ℕ} → remaining ≡ s.remaining - 1
+pub ran_by : (s : Slot) {remaining : ℕ} → remaining ≡ s.remaining - 1
     → record { period = s.period; budget = s.budget; until = s.until; remaining = remaining } ≡ ran s
-ran-by s e = λ i. record { period = s.period; budget = s.budget; until = s.until; remaining = e i }
+ran_by s e = λ i. record { period = s.period; budget = s.budget; until = s.until; remaining = e i }

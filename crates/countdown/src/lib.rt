@@ -1,6 +1,6 @@
 // The countdown of one slot: of its release, and of what it owes where it runs.
 ghost use Rattle.std.specs.Prelude.{◌≡◌, ◌-◌};
-ghost use Rattle.edf.specs.Tick.{ran as ranOf, advanced as advancedOf};
+ghost use Rattle.edf.specs.Tick.{ran as ran_of, advanced as advanced_of};
 
 use edf::Slot;
 
@@ -12,7 +12,7 @@ fn less_one(x: u32) -> u32
 
 // Step 3: an occupied slot's release is one tick nearer.
 pub fn advanced(s: Slot) -> Slot
-    ensures { result ≡ advancedOf s }
+    ensures { result ≡ advanced_of s }
 {
     let until = less_one(s.until);
     Slot {
@@ -25,7 +25,7 @@ pub fn advanced(s: Slot) -> Slot
 
 // Step 2: the slot that runs owes one tick less.
 pub fn ran(s: Slot) -> Slot
-    ensures { result ≡ ranOf s }
+    ensures { result ≡ ran_of s }
 {
     let remaining = less_one(s.remaining);
     Slot {

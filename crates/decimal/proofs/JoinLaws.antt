@@ -9,7 +9,7 @@ use native.Mathlib.Numerals.{add-one}
 use Rattle.text.specs.Shown.{Appended}
 use Rattle.decimal.specs.Joined.{joined}
 use Rattle.text.specs.declared.Text.{Text}
-use Rattle.text.proofs.ClipLaws.{append-none, append-both, append-within}
+use Rattle.text.proofs.ClipLaws.{append-none, append_both, append_within}
 
 joined-more : {A : Type 0} (piece : A → List ℕ) (xs : List A) (y : A) → joined piece (xs ++ y ∷ []) ≡ joined piece xs ++ piece y
 unfolding joined
@@ -22,23 +22,23 @@ pub record Joined {A : Type 0} (piece : A → List ℕ) (most n : ℕ) (t : Text
   pub top : k ≤ n
   pub is : Appended t (joined piece (take k l)) (most * k) r
 
-pub join-start : {A : Type 0} (piece : A → List ℕ) (most n : ℕ) (t : Text) (l : List A) → length t.bytes ≡ 2560 → length l ≡ n → Joined piece most n t l t 0
+pub join_start : {A : Type 0} (piece : A → List ℕ) (most n : ℕ) (t : Text) (l : List A) → length t.bytes ≡ 2560 → length l ≡ n → Joined piece most n t l t 0
 unfolding joined
-join-start piece most n t l b h = record { size = h; top = omega arith; is = append-within (most * 0) (append-none t b) (omega arith) }
+join_start piece most n t l b h = record { size = h; top = omega arith; is = append_within (most * 0) (append-none t b) (omega arith) }
 
 module _ {A : Type 0} {piece : A → List ℕ} {most n : ℕ} {t : Text} {l : List A} {r : Text} {k : ℕ} where
-  pub join-next : (d : A) {next : Text} → Joined piece most n t l r k → k < n → Appended r (piece (get_or l k d)) most next → Joined piece most n t l next (k + 1)
-  join-next d s h p = record {
+  pub join_next : (d : A) {next : Text} → Joined piece most n t l r k → k < n → Appended r (piece (get_or l k d)) most next → Joined piece most n t l next (k + 1)
+  join_next d s h p = record {
     size = s.size;
     top = omega arith;
     is =
         let more : joined piece (take (k + 1) l) ≡ joined piece (take k l) ++ piece (get_or l k d) =
         rw (add-one, take-suc l k d (omega (arith, s.size))) (joined-more piece (take k l) (get_or l k d)) in
-        rw more (append-within (most * (k + 1)) (append-both s.is p) (omega arith));
+        rw more (append_within (most * (k + 1)) (append_both s.is p) (omega arith));
   }
 
-  pub join-done : (bound : ℕ) → Joined piece most n t l r k → n ≤ k → most * n ≤ bound → Appended t (joined piece l) bound r
-  join-done bound s h b =
+  pub join_done : (bound : ℕ) → Joined piece most n t l r k → n ≤ k → most * n ≤ bound → Appended t (joined piece l) bound r
+  join_done bound s h b =
       let e : k ≡ n = omega (arith, s.top) in
       let whole : take n l ≡ l = take_all n l (omega (arith, s.size)) in
-      append-within bound (rw whole at (rw e at s.is)) b
+      append_within bound (rw whole at (rw e at s.is)) b

@@ -9,13 +9,13 @@ front digits zero = []
 front digits (suc q) = digits (suc q)
 
 -- the last k digits, with no zero in front: those of x / 10, if it is not 0, and the last one
-unfoldable pub digitsBy : ℕ → ℕ → List ℕ
-digitsBy zero x = []
-digitsBy (suc k) x = front (digitsBy k) (x / 10) ++ ((48 + x % 10) ∷ [])
+unfoldable pub digits_by : ℕ → ℕ → List ℕ
+digits_by zero x = []
+digits_by (suc k) x = front (digits_by k) (x / 10) ++ ((48 + x % 10) ∷ [])
 
 -- all digits: x has no more than x + 1
 unfoldable pub decimal : ℕ → List ℕ
-decimal x = digitsBy (suc x) x
+decimal x = digits_by (suc x) x
 
 -- a space and a number
 unfoldable pub field : ℕ → List ℕ

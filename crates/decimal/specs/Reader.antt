@@ -7,24 +7,24 @@ pub data Item : Type 0 where
   word : List ℕ → Item
 
 -- digits have the codes 48 to 57
-abbrev pub allDigits : List ℕ → Bool
-allDigits [] = true
-allDigits (b ∷ bs) = leb 48 b && leb b 57 && allDigits bs
+abbrev pub all_digits : List ℕ → Bool
+all_digits [] = true
+all_digits (b ∷ bs) = leb 48 b && leb b 57 && all_digits bs
 
 -- a number is one digit, or several of which the first is no zero
 abbrev pub is_number : List ℕ → Bool
 is_number [] = false
-is_number (b ∷ []) = allDigits (b ∷ [])
-is_number (b ∷ c ∷ bs) = ltb 48 b && allDigits (b ∷ c ∷ bs)
+is_number (b ∷ []) = all_digits (b ∷ [])
+is_number (b ∷ c ∷ bs) = ltb 48 b && all_digits (b ∷ c ∷ bs)
 
 -- its value, where v is that of the digits before: each digit counts one, and those before it ten times more
-abbrev pub valueFrom : ℕ → List ℕ → ℕ
-valueFrom v [] = v
-valueFrom v (b ∷ bs) = valueFrom (10 * v + (b - 48)) bs
+abbrev pub value_from : ℕ → List ℕ → ℕ
+value_from v [] = v
+value_from v (b ∷ bs) = value_from (10 * v + (b - 48)) bs
 
 -- what bytes between two spaces are read as
 unfoldable pub item : List ℕ → Item
-item bytes = cond (is_number bytes) (number (valueFrom 0 bytes)) (word bytes)
+item bytes = cond (is_number bytes) (number (value_from 0 bytes)) (word bytes)
 
 -- a byte before some pieces: one that separates begins a new piece, any other belongs to the first
 abbrev pub ahead : Bool → ℕ → List (List ℕ) → List (List ℕ)
@@ -38,12 +38,12 @@ pieces separator [] = [] ∷ []
 pieces separator (byte ∷ bytes) = ahead (eqb byte separator) byte (pieces separator bytes)
 
 -- the items of a line, between spaces
-abbrev pub readLine : List ℕ → List Item
-readLine line = map item (pieces 32 line)
+abbrev pub read_line : List ℕ → List Item
+read_line line = map item (pieces 32 line)
 
 -- the lines of a text, and last what stands behind the last line feed
-unfoldable pub readText : List ℕ → List (List Item)
-readText text = map readLine (pieces 10 text)
+unfoldable pub read_text : List ℕ → List (List Item)
+read_text text = map read_line (pieces 10 text)
 
 -- nothing, as it is read
 abbrev pub nothing : List Item
@@ -51,4 +51,4 @@ nothing = word [] ∷ []
 
 -- No two texts are read alike: what is read fixes every byte.
 abbrev pub ReadOnce : Type 0
-ReadOnce = (a b : List ℕ) → readText a ≡ readText b → a ≡ b
+ReadOnce = (a b : List ℕ) → read_text a ≡ read_text b → a ≡ b

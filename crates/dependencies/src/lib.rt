@@ -1,11 +1,11 @@
 // The check of a dependency list: the tasks of a table in an order in which each stands after those that feed it, or a refusal.
 ghost use Rattle.std.specs.Prelude.{◌≡◌, ◌≤◌};
-ghost use Rattle.refusal.specs.Tests.{inOrder};
+ghost use Rattle.refusal.specs.Tests.{in_order};
 ghost use Rattle.taskset.specs.Table.{Decided};
 ghost use Rattle.newform.specs.Limits.{new};
-ghost use Rattle.feeding.specs.Tests.{listTests};
-ghost use Rattle.feeding.specs.Limits.{fedBy};
-ghost use Rattle.dependencies.specs.Order.{refusedOrder, order_by, order_of};
+ghost use Rattle.feeding.specs.Tests.{list_tests};
+ghost use Rattle.feeding.specs.Limits.{fed_by};
+ghost use Rattle.dependencies.specs.Order.{refused_order, order_by, order_of};
 ghost use Rattle.dependencies.specs.Promise.{Promise};
 
 use fields::{Fields, MOST_TASKS};
@@ -20,7 +20,7 @@ pub struct TaskOrder {
 
 // A refusal, with sixteen zeros beside its cause.
 fn refused(cause: Cause) -> TaskOrder
-    ensures { result ≡ refusedOrder cause }
+    ensures { result ≡ refused_order cause }
 {
     TaskOrder {
         outcome: Outcome::Refused(cause),
@@ -31,7 +31,7 @@ fn refused(cause: Cause) -> TaskOrder
 // The answer for the fields of a table that was accepted: the list is tested.
 fn order_tasks(f: Fields, list: &[u8]) -> TaskOrder
     requires { f.n ≤ 16 }
-    ensures { result ≡ order_by list.now (inOrder (listTests f list.now)) f }
+    ensures { result ≡ order_by list.now (in_order (list_tests f list.now)) f }
 {
     let tested = feeding::list_tests(f, list);
     match tested {
@@ -50,7 +50,7 @@ fn order_tasks(f: Fields, list: &[u8]) -> TaskOrder
 // first, or the first cause of refusal.
 pub fn check_dependencies(table: &[u8], list: &[u8]) -> TaskOrder
     ensures answer { result ≡ order_of (new table.now) list.now }
-    ensures decides { Decided (fedBy (new table.now) list.now) result.outcome }
+    ensures decides { Decided (fed_by (new table.now) list.now) result.outcome }
     ensures promise { Promise (new table.now) list.now result }
 {
     let reading = newform::read_new(table);

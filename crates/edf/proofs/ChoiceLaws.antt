@@ -11,28 +11,28 @@ use lib.ListN.{length}
 use borrow.Author.Tests.{ltb-true, lt-ltb, eq-eqb, ne_eqb}
 use Rattle.numbers.proofs.BoolLaws.{cond_both}
 use Rattle.edf.specs.declared.Slot.{Slot}
-use Rattle.edf.specs.Slots.{slot_at, eachFrom, each}
+use Rattle.edf.specs.Slots.{slot_at, each_from, each}
 use Rattle.edf.specs.declared.Claim.{Claim}
-use Rattle.edf.specs.Earliest.{consIf, In}
-use Rattle.edf.specs.Tick.{claimsFrom, chosen, ran, run}
-use Rattle.edf.proofs.SlotLaws.{totalOver, total-each}
-use Rattle.edf.proofs.DemandLaws.{split, Active, in_use, jobs, demandBound, demand-in, demand-out, demand-quiet}
-use Rattle.edf.proofs.EarliestLaws.{Rising, claimTask, rising-cons, names-earliest}
+use Rattle.edf.specs.Earliest.{cons_if, In}
+use Rattle.edf.specs.Tick.{claims_from, chosen, ran, run}
+use Rattle.edf.proofs.SlotLaws.{total_over, total-each}
+use Rattle.edf.proofs.DemandLaws.{split, Active, in_use, jobs, demand_bound, demand_in, demand_out, demand_quiet}
+use Rattle.edf.proofs.EarliestLaws.{Rising, claim_task, rising_cons, names-earliest}
 
-pub claims-rising : (k : ℕ) (slots : List Slot) → Rising claimTask k (claimsFrom k slots)
-claims-rising k [] = tt
-claims-rising k (s ∷ slots) =
-    rising-cons claimTask k (ltb 0 s.remaining) _ (claimsFrom (suc k) slots) (le_refl k) (claims-rising (suc k) slots)
+pub claims_rising : (k : ℕ) (slots : List Slot) → Rising claim_task k (claims_from k slots)
+claims_rising k [] = tt
+claims_rising k (s ∷ slots) =
+    rising_cons claim_task k (ltb 0 s.remaining) _ (claims_from (suc k) slots) (le_refl k) (claims_rising (suc k) slots)
 
 -- A claim of a list with one more in front, if that is made.
-in-cases : {c d : Claim} (b : Bool) (cs : List Claim) → In c (consIf b d cs) → ((b ≡ true) × (c ≡ d)) ⊎ In c cs
-in-cases true cs (inl e) = inl (refl, e)
-in-cases true cs (inr h) = inr h
-in-cases false cs h = inr h
+in_cases : {c d : Claim} (b : Bool) (cs : List Claim) → In c (cons_if b d cs) → ((b ≡ true) × (c ≡ d)) ⊎ In c cs
+in_cases true cs (inl e) = inl (refl, e)
+in_cases true cs (inr h) = inr h
+in_cases false cs h = inr h
 
-in-later : (c d : Claim) (b : Bool) (cs : List Claim) → In c cs → In c (consIf b d cs)
-in-later c d true cs h = inr h
-in-later c d false cs h = h
+in_later : (c d : Claim) (b : Bool) (cs : List Claim) → In c cs → In c (cons_if b d cs)
+in_later c d true cs h = inr h
+in_later c d false cs h = h
 
 -- The slot that makes a claim: it owes ticks.
 pub record ClaimOf (k : ℕ) (slots : List Slot) (c : Claim) : Type 0 where
@@ -42,93 +42,93 @@ pub record ClaimOf (k : ℕ) (slots : List Slot) (c : Claim) : Type 0 where
   pub deadline : c.deadline ≡ (slot_at slots index).until
   pub owes : 0 < (slot_at slots index).remaining
 
-pub claim-slot : (k : ℕ) (slots : List Slot) (c : Claim) → In c (claimsFrom k slots) → ClaimOf k slots c
-claim-slot k [] c h = absurd h
-claim-slot k (s ∷ slots) c h = elim (in-cases (ltb 0 s.remaining) (claimsFrom (suc k) slots) h) [
+pub claim_slot : (k : ℕ) (slots : List Slot) (c : Claim) → In c (claims_from k slots) → ClaimOf k slots c
+claim_slot k [] c h = absurd h
+claim_slot k (s ∷ slots) c h = elim (in_cases (ltb 0 s.remaining) (claims_from (suc k) slots) h) [
   | inl m ↦ record {
     index = 0;
     below = suc-le-suc zero-le;
-    number = ap claimTask m.1 ∙ omega arith;
+    number = ap claim_task m.1 ∙ omega arith;
     deadline = ap (λ (d : Claim). d.deadline) m.1;
     owes = ltb-true 0 s.remaining m.0;
   }
   | inr m ↦
-      let a : ClaimOf (suc k) slots c = claim-slot (suc k) slots c m in
+      let a : ClaimOf (suc k) slots c = claim_slot (suc k) slots c m in
       record { index = suc a.index; below = omega arith; number = omega arith; deadline = a.deadline; owes = a.owes }
 ]
 
-pub claims-from : (k : ℕ) (slots : List Slot) (c : Claim) → In c (claimsFrom k slots) → k ≤ c.task
-claims-from k slots c h = omega (arith, (claim-slot k slots c h).number)
+pub claims_from_lem : (k : ℕ) (slots : List Slot) (c : Claim) → In c (claims_from k slots) → k ≤ c.task
+claims_from_lem k slots c h = omega (arith, (claim_slot k slots c h).number)
 
 -- Each such slot claims.
-pub slot-claim : (k : ℕ) (slots : List Slot) (i : ℕ) → 0 < (slot_at slots i).remaining
-    → In (record { task = k + i; deadline = (slot_at slots i).until }) (claimsFrom k slots)
-slot-claim k [] i h = absurd (omega arith)
-slot-claim k (s ∷ slots) zero h = rw (lt-ltb 0 s.remaining h, add-zero k) (inl refl)
-slot-claim k (s ∷ slots) (suc i) h =
+pub slot_claim : (k : ℕ) (slots : List Slot) (i : ℕ) → 0 < (slot_at slots i).remaining
+    → In (record { task = k + i; deadline = (slot_at slots i).until }) (claims_from k slots)
+slot_claim k [] i h = absurd (omega arith)
+slot_claim k (s ∷ slots) zero h = rw (lt-ltb 0 s.remaining h, add-zero k) (inl refl)
+slot_claim k (s ∷ slots) (suc i) h =
     rw (add-suc k i, ← suc-add k i)
-    (in-later _ _ (ltb 0 s.remaining) (claimsFrom (suc k) slots) (slot-claim (suc k) slots i h))
+    (in_later _ _ (ltb 0 s.remaining) (claims_from (suc k) slots) (slot_claim (suc k) slots i h))
 
 -- The task that runs owes ticks.
-pub chosen-owes : (slots : List Slot) (i : ℕ) → 1 + i ≡ chosen slots → 0 < (slot_at slots i).remaining
+pub chosen_owes : (slots : List Slot) (i : ℕ) → 1 + i ≡ chosen slots → 0 < (slot_at slots i).remaining
 unfolding chosen
-chosen-owes slots i e = elim (names-earliest 1 (claimsFrom 1 slots) (claims-rising 1 slots)) [
+chosen_owes slots i e = elim (names-earliest 1 (claims_from 1 slots) (claims_rising 1 slots)) [
   | inl n ↦ absurd (omega arith)
   | inr n ↦
-      let a : ClaimOf 1 slots n.0 = claim-slot 1 slots n.0 n.1.claims in
+      let a : ClaimOf 1 slots n.0 = claim_slot 1 slots n.0 n.1.claims in
       let same : a.index ≡ i = omega arith in
       rw same at a.owes
 ]
 
-run-below : (k j : ℕ) (slots : List Slot) → j < k → eachFrom k (run j) slots ≡ slots
+run-below : (k j : ℕ) (slots : List Slot) → j < k → each_from k (run j) slots ≡ slots
 run-below k j [] h = refl
 run-below k j (s ∷ slots) h = rw (ne_eqb k j (λ e. omega arith), run-below (suc k) j slots (omega arith)) refl
 
 module _ (charge : ℕ) where
-  run-demand : (x j k : ℕ) (s : Slot) → demandBound charge x (run j k s) ≤ demandBound charge x s
+  run-demand : (x j k : ℕ) (s : Slot) → demand_bound charge x (run j k s) ≤ demand_bound charge x s
   run-demand x j k s =
-      cond_both (λ r. demandBound charge x r ≤ demandBound charge x s) (eqb k j) (ran s) s (elim (split s.until x) [
-        | inl h ↦ omega (arith, demand-in charge x s h, demand-in charge x (ran s) h)
-        | inr h ↦ omega (arith, demand-out charge x (ran s) h)
-      ]) (le_refl (demandBound charge x s))
+      cond_both (λ r. demand_bound charge x r ≤ demand_bound charge x s) (eqb k j) (ran s) s (elim (split s.until x) [
+        | inl h ↦ omega (arith, demand_in charge x s h, demand_in charge x (ran s) h)
+        | inr h ↦ omega (arith, demand_out charge x (ran s) h)
+      ]) (le_refl (demand_bound charge x s))
 
   -- Running a task that claims takes one from the demand at each horizon from its deadline on.
-  run-drops : (k : ℕ) (slots : List Slot) (c : Claim) (x : ℕ) → In c (claimsFrom k slots) → c.deadline ≤ x
-      → totalOver (demandBound charge x) (eachFrom k (run c.task) slots) < totalOver (demandBound charge x) slots
-  run-drops k [] c x h l = absurd h
-  run-drops k (s ∷ slots) c x h l = elim (in-cases (ltb 0 s.remaining) (claimsFrom (suc k) slots) h) [
+  run_drops : (k : ℕ) (slots : List Slot) (c : Claim) (x : ℕ) → In c (claims_from k slots) → c.deadline ≤ x
+      → total_over (demand_bound charge x) (each_from k (run c.task) slots) < total_over (demand_bound charge x) slots
+  run_drops k [] c x h l = absurd h
+  run_drops k (s ∷ slots) c x h l = elim (in_cases (ltb 0 s.remaining) (claims_from (suc k) slots) h) [
     | inl m ↦
         let at : s.until ≤ x = rw m.1 at l in
         rw (m.1, eq-eqb k k refl, run-below (suc k) k slots (le_refl (suc k)))
-        (omega (arith, ltb-true 0 s.remaining m.0, demand-in charge x s at, demand-in charge x (ran s) at))
+        (omega (arith, ltb-true 0 s.remaining m.0, demand_in charge x s at, demand_in charge x (ran s) at))
     | inr m ↦
-        rw (ne_eqb k c.task (λ e. omega (arith, claims-from (suc k) slots c m)))
-        (omega (arith, run-drops (suc k) slots c x m l))
+        rw (ne_eqb k c.task (λ e. omega (arith, claims_from_lem (suc k) slots c m)))
+        (omega (arith, run_drops (suc k) slots c x m l))
   ]
 
-  pub run-active : (j k : ℕ) (s : Slot) → Active charge s → Active charge (run j k s)
-  run-active j k s a = cond_both (Active charge) (eqb k j) (ran s) s (elim a [
+  pub run_active : (j k : ℕ) (s : Slot) → Active charge s → Active charge (run j k s)
+  run_active j k s a = cond_both (Active charge) (eqb k j) (ran s) s (elim a [
     | inl m ↦ inl (ap ran m)
-    | inr w ↦ inr (w.0, in_use charge (s.until - 1) _ w.1 w.1.until-in (omega (arith, w.1.remaining-in)))
+    | inr w ↦ inr (w.0, in_use charge (s.until - 1) _ w.1 w.1.until_in (omega (arith, w.1.remaining_in)))
   ]) a
 
   -- The tick goes to the earliest deadline: the demand at each horizon y + 1 falls to y.
-  pub serves : (slots : List Slot) (y : ℕ) → ((i : ℕ) → Active charge (slot_at slots i)) → totalOver (jobs charge y) slots ≤ y
-      → totalOver (demandBound charge (suc y)) slots ≤ suc y
-      → totalOver (demandBound charge (suc y)) (each (run (chosen slots)) slots) ≤ y
+  pub serves : (slots : List Slot) (y : ℕ) → ((i : ℕ) → Active charge (slot_at slots i)) → total_over (jobs charge y) slots ≤ y
+      → total_over (demand_bound charge (suc y)) slots ≤ suc y
+      → total_over (demand_bound charge (suc y)) (each (run (chosen slots)) slots) ≤ y
   unfolding chosen
-  serves slots y a r d = elim (names-earliest 1 (claimsFrom 1 slots) (claims-rising 1 slots)) [
+  serves slots y a r d = elim (names-earliest 1 (claims_from 1 slots) (claims_rising 1 slots)) [
     | inl n ↦ still _ (rw n.0 (λ c m. absurd m))
     | inr n ↦ rw n.2 (elim (split n.0.deadline (suc y)) [
-      | inl h ↦ omega (arith, run-drops 1 slots n.0 (suc y) n.1.claims h)
+      | inl h ↦ omega (arith, run_drops 1 slots n.0 (suc y) n.1.claims h)
       | inr h ↦ still n.0.task (λ d m. omega (arith, n.1.least d m))
     ])
   ]
     where
       -- Where no claim is due up to the horizon, the demand is of whole jobs in the ticks after this one.
-      still : (j : ℕ) → ((c : Claim) → In c (claimsFrom 1 slots) → suc y < c.deadline)
-          → totalOver (demandBound charge (suc y)) (each (run j) slots) ≤ y
+      still : (j : ℕ) → ((c : Claim) → In c (claims_from 1 slots) → suc y < c.deadline)
+          → total_over (demand_bound charge (suc y)) (each (run j) slots) ≤ y
       still j h =
-          total-each (demandBound charge (suc y)) (jobs charge y) (run j) 1 slots
+          total-each (demand_bound charge (suc y)) (jobs charge y) (run j) 1 slots
           (λ k i. le_trans (run-demand (suc y) j k (slot_at slots i))
-          (demand-quiet charge y (slot_at slots i) (a i) (λ p. h _ (slot-claim 1 slots i p)))) y r
+          (demand_quiet charge y (slot_at slots i) (a i) (λ p. h _ (slot_claim 1 slots i p)))) y r

@@ -10,12 +10,12 @@ use lib.ListN.{length, get_or, take, drop}
 use borrow.Author.Tests.{eq-eqb, ne_eqb}
 use Rattle.edf.specs.declared.Slot.{Slot}
 use Rattle.edf.specs.Slots.{slot_at}
-use Rattle.edf.specs.Tick.{request, owedFor, release, releaseAll, chosen, ran, run, advance, stepped, ticked}
+use Rattle.edf.specs.Tick.{request, owed_for, release, release_all, chosen, ran, run, advance, stepped, ticked}
 use Rattle.edf.specs.Guarantee.{runs, count}
 use Rattle.edf.proofs.SlotSteps.{ready_at, advanced-at}
-use Rattle.edf.proofs.DemandLaws.{advance-occupied, release-later, release-now}
-use Rattle.edf.proofs.ChoiceLaws.{chosen-owes}
-use Rattle.edf.proofs.StepLaws.{Good, prompt, tick-stepped, stepped-good}
+use Rattle.edf.proofs.DemandLaws.{advance-occupied, release-later, release_now}
+use Rattle.edf.proofs.ChoiceLaws.{chosen_owes}
+use Rattle.edf.proofs.StepLaws.{Good, prompt, tick-stepped, stepped_good}
 
 -- What a stretch of ticks gave a task: never more than it is owed, and exactly that once the stretch is complete.
 pub record Receives (complete : Type 0) (got owed : ℕ) : Type 0 where
@@ -46,10 +46,10 @@ module _ (charge i : ℕ) where
       → Moved (suc i) (stepped charge slots requests).run r (slot_at (stepped charge slots requests).slots i)
   unfolding stepped
   track slots requests {r} e h =
-      let ready : List Slot = releaseAll charge requests slots in
+      let ready : List Slot = release_all charge requests slots in
       let at : slot_at ready i ≡ r = ready_at charge requests slots i ∙ e in
       rw (advanced-at (chosen ready) ready i, at)
-      (moved (suc i) (chosen ready) r h (λ q. rw at at (chosen-owes ready i (omega arith))))
+      (moved (suc i) (chosen ready) r h (λ q. rw at at (chosen_owes ready i (omega arith))))
 
   -- Up to its next release a slot receives what remains of its job.
   job : (ticks : List (List ℕ)) (slots : List Slot) (u : ℕ) → Good charge slots → 0 < (slot_at slots i).period → (slot_at slots i).until ≡ u
@@ -59,7 +59,7 @@ module _ (charge i : ℕ) where
   job [] slots (suc u) g h e = record { most = zero-le; exact = λ w. absurd (omega arith) }
   job (requests ∷ rest) slots (suc u) g h e =
       let m = track slots requests (release-later charge requests (suc i) (slot_at slots i) (omega arith)) h in
-      let r = job rest (stepped charge slots requests).slots u (stepped-good charge slots requests g)
+      let r = job rest (stepped charge slots requests).slots u (stepped_good charge slots requests g)
       (omega arith) (m.until ∙ omega arith) in
       rw (tick-stepped charge slots requests g)
       (record { most = omega arith; exact = λ w. omega (arith, r.exact (omega arith)) })
@@ -68,24 +68,24 @@ module _ (charge i : ℕ) where
   pub periods : (p b : ℕ) (ticks : List (List ℕ)) (slots : List Slot) (start u k : ℕ) → Good charge slots
       → (slot_at slots i).period ≡ suc p → (slot_at slots i).budget ≡ b → (slot_at slots i).until ≡ u → start ≡ u + k * suc p → start < length ticks
       → Receives (start + suc p ≤ length ticks) (count (suc i) (take (suc p) (drop start (runs (ticked charge slots ticks)))))
-      (owedFor charge b (request (get_or ticks start []) (suc i)))
+      (owed_for charge b (request (get_or ticks start []) (suc i)))
   unfolding stepped
   periods p b [] slots start u k g hp hb e at l = absurd (omega arith)
   periods p b (requests ∷ rest) slots zero u k g hp hb e at l =
       let z : (slot_at slots i).until ≡ 0 = omega arith in
-      let m = track slots requests (release-now charge requests (suc i) (slot_at slots i) (omega arith) z) (omega arith) in
-      let r = job rest (stepped charge slots requests).slots p (stepped-good charge slots requests g)
+      let m = track slots requests (release_now charge requests (suc i) (slot_at slots i) (omega arith) z) (omega arith) in
+      let r = job rest (stepped charge slots requests).slots p (stepped_good charge slots requests g)
       (omega arith) (m.until ∙ omega arith) in
       rw (tick-stepped charge slots requests g, ← hb)
       (record { most = omega arith; exact = λ w. omega (arith, r.exact (omega arith)) })
   periods p b (requests ∷ rest) slots (suc start) zero zero g hp hb e at l = absurd (omega arith)
   periods p b (requests ∷ rest) slots (suc start) zero (suc k) g hp hb e at l =
-      let m = track slots requests (release-now charge requests (suc i) (slot_at slots i) (omega arith) e) (omega arith) in
-      let r = periods p b rest (stepped charge slots requests).slots start p k (stepped-good charge slots requests g)
+      let m = track slots requests (release_now charge requests (suc i) (slot_at slots i) (omega arith) e) (omega arith) in
+      let r = periods p b rest (stepped charge slots requests).slots start p k (stepped_good charge slots requests g)
       (m.period ∙ hp) (m.budget ∙ hb) (m.until ∙ omega arith) (omega arith) (omega arith) in
       rw (tick-stepped charge slots requests g) (record { most = r.most; exact = λ w. r.exact (omega arith) })
   periods p b (requests ∷ rest) slots (suc start) (suc u) k g hp hb e at l =
       let m = track slots requests (release-later charge requests (suc i) (slot_at slots i) (omega arith)) (omega arith) in
-      let r = periods p b rest (stepped charge slots requests).slots start u k (stepped-good charge slots requests g)
+      let r = periods p b rest (stepped charge slots requests).slots start u k (stepped_good charge slots requests g)
       (m.period ∙ hp) (m.budget ∙ hb) (m.until ∙ omega arith) (omega arith) (omega arith) in
       rw (tick-stepped charge slots requests g) (record { most = r.most; exact = λ w. r.exact (omega arith) })

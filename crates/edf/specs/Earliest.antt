@@ -3,9 +3,9 @@ use Rattle.std.specs.Prelude.{ℕ, ◌≤◌, ◌≡◌, ◌⊎◌, Bool, true, 
 use Rattle.edf.specs.declared.Claim.{Claim}
 
 -- an element put in front of a list if a test holds
-abbrev pub consIf : {A : Type 0} → Bool → A → List A → List A
-consIf true x xs = x ∷ xs
-consIf false x xs = xs
+abbrev pub cons_if : {A : Type 0} → Bool → A → List A → List A
+cons_if true x xs = x ∷ xs
+cons_if false x xs = xs
 
 -- of two claims the one with the earlier deadline, the first among equals
 abbrev pub sooner : Claim → Claim → Claim

@@ -1,15 +1,15 @@
 // The fields of a table as bytes of each stored form, written to the front of a lent output that has room.
 ghost use Rattle.std.specs.Prelude.{◌≡◌, ◌++◌, ◌+◌, ◌*◌, ◌≤◌, length, drop};
 ghost use Rattle.fields.specs.Limits.{Within};
-ghost use Rattle.oldform.specs.Form.{oldBytes};
-ghost use Rattle.newform.specs.Form.{newBytes};
+ghost use Rattle.oldform.specs.Form.{old_bytes};
+ghost use Rattle.newform.specs.Form.{new_bytes};
 
 use fields::Fields;
 
 // Writes fields in the new form to the front of an output and leaves what follows.
 pub fn put_new(out: &mut [u8], f: Fields)
     requires { Within f × (4 + 9 * f.n ≤ length out.old) }
-    ensures { out.new ≡ newBytes f ++ drop (length (newBytes f)) out.old }
+    ensures { out.new ≡ new_bytes f ++ drop (length (new_bytes f)) out.old }
 {
     let n = f.n;
     out[0] = 0;
@@ -27,7 +27,7 @@ pub fn put_new(out: &mut [u8], f: Fields)
 // The same in the old form, which has no place for charge and core bytes.
 pub fn put_old(out: &mut [u8], f: Fields)
     requires { Within f × (2 + 8 * f.n ≤ length out.old) }
-    ensures { out.new ≡ oldBytes f ++ drop (length (oldBytes f)) out.old }
+    ensures { out.new ≡ old_bytes f ++ drop (length (old_bytes f)) out.old }
 {
     let n = f.n;
     out[0] = n as u8;

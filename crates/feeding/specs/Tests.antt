@@ -1,25 +1,25 @@
 -- The tests of a dependency list, one a number, for fields of a table.
 use Rattle.std.specs.Prelude.{ℕ, Bool, List, [], ◌∷◌}
 use Rattle.numbers.specs.First.{first}
-use Rattle.refusal.specs.Tests.{refuseAt}
+use Rattle.refusal.specs.Tests.{refuse_at}
 use Rattle.refusal.specs.declared.Cause.TheVariants.{Pair, Circle}
 use Rattle.refusal.specs.declared.Outcome.{Outcome}
 use Rattle.fields.specs.declared.Fields.{Fields}
 use Rattle.precedence.specs.Circles.{circular}
-use Rattle.pairs.specs.Pairs.{pairCount, feeding, fed, unfit, feeds, listTest}
+use Rattle.pairs.specs.Pairs.{pair_count, feeding, fed, unfit, feeds, list_test}
 
 -- pair i is none of n tasks with these periods
-unfoldable pub unfitAt : ℕ → List ℕ → List ℕ → ℕ → Bool
-unfitAt n periods list i = unfit n periods (feeding list i) (fed list i)
+unfoldable pub unfit_at : ℕ → List ℕ → List ℕ → ℕ → Bool
+unfit_at n periods list i = unfit n periods (feeding list i) (fed list i)
 
 -- number 20: a pair is none of the table's
-abbrev pub pairsTest : Fields → List ℕ → Outcome
-pairsTest f list = refuseAt (first (unfitAt f.n f.periods list) (pairCount list)) Pair
+abbrev pub pairs_test : Fields → List ℕ → Outcome
+pairs_test f list = refuse_at (first (unfit_at f.n f.periods list) (pair_count list)) Pair
 
 -- number 21: a task lies on a circle
-abbrev pub circleTest : Fields → List ℕ → Outcome
-circleTest f list = refuseAt (first (circular (feeds list) f.n) f.n) Circle
+abbrev pub circle_test : Fields → List ℕ → Outcome
+circle_test f list = refuse_at (first (circular (feeds list) f.n) f.n) Circle
 
 -- the tests of a list in order: numbers 19, 20 and 21
-abbrev pub listTests : Fields → List ℕ → List Outcome
-listTests f list = listTest list ∷ pairsTest f list ∷ circleTest f list ∷ []
+abbrev pub list_tests : Fields → List ℕ → List Outcome
+list_tests f list = list_test list ∷ pairs_test f list ∷ circle_test f list ∷ []

@@ -1,17 +1,17 @@
 // The tests of a dependency list beside a table's fields: of its pairs, of the circles that they make, and all in order.
 ghost use Rattle.std.specs.Prelude.{◌≡◌, ◌≤◌};
 ghost use Rattle.numbers.specs.First.{first};
-ghost use Rattle.refusal.specs.Tests.{inOrder};
+ghost use Rattle.refusal.specs.Tests.{in_order};
 ghost use Rattle.relation.specs.Cells.{Cells};
-ghost use Rattle.pairs.specs.Pairs.{pairCount, feeds};
-ghost use Rattle.feeding.specs.Tests.{unfitAt, pairsTest, circleTest, listTests};
+ghost use Rattle.pairs.specs.Pairs.{pair_count, feeds};
+ghost use Rattle.feeding.specs.Tests.{unfit_at, pairs_test, circle_test, list_tests};
 
 use fields::Fields;
 use refusal::{Cause, Outcome};
 
 // The first pair, from 1, that is none of the table's tasks or has unfit periods; 0 if there is none.
 fn first_unfit(n: usize, periods: [u32; 16], list: &[u8]) -> usize
-    ensures { result ≡ first (unfitAt n periods list.now) (pairCount list.now) }
+    ensures { result ≡ first (unfit_at n periods list.now) (pair_count list.now) }
 {
     let k = pairs::count(list);
     let mut i: usize = 0;
@@ -26,7 +26,7 @@ fn first_unfit(n: usize, periods: [u32; 16], list: &[u8]) -> usize
 
 // Number 20.
 fn pairs_test(f: Fields, list: &[u8]) -> Outcome
-    ensures { result ≡ pairsTest f list.now }
+    ensures { result ≡ pairs_test f list.now }
 {
     let periods = f.periods;
     let pair = first_unfit(f.n, periods, list);
@@ -53,7 +53,7 @@ pub fn relation_of(list: &[u8]) -> [bool; 289]
 // Number 21.
 fn circle_test(f: Fields, list: &[u8]) -> Outcome
     requires { f.n ≤ 16 }
-    ensures { result ≡ circleTest f list.now }
+    ensures { result ≡ circle_test f list.now }
 {
     let task = relation::circle_task(relation_of(list), f.n);
     refusal::refuse_if(task != 0, Cause::Circle(task))
@@ -62,7 +62,7 @@ fn circle_test(f: Fields, list: &[u8]) -> Outcome
 // The tests of a list in order: numbers 19, 20 and 21.
 pub fn list_tests(f: Fields, list: &[u8]) -> Outcome
     requires { f.n ≤ 16 }
-    ensures { result ≡ inOrder (listTests f list.now) }
+    ensures { result ≡ in_order (list_tests f list.now) }
 {
     let shape = pairs::list_test(list);
     let fit = pairs_test(f, list);

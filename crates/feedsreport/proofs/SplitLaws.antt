@@ -10,72 +10,72 @@ use lib.Seq.{take_all, length-take-le}
 use native.Mathlib.Omega.{arith}
 use borrow.Author.Tests.{ltb-false, lt-ltb, le-ltb}
 use Rattle.numbers.specs.Bounds.{outside, Outside}
-use Rattle.numbers.proofs.BoolLaws.{true-or-false, or-false-right}
-use Rattle.numbers.proofs.BoundLaws.{outside-exactly}
-use Rattle.feedsreport.specs.Split.{noCount, tooFew, splitAt, tableIn, listIn, Split}
+use Rattle.numbers.proofs.BoolLaws.{true_or_false, or_false_right}
+use Rattle.numbers.proofs.BoundLaws.{outside_exactly}
+use Rattle.feedsreport.specs.Split.{no_count, too_few, split_at, table_in, list_in, Split}
 
 module _ (input : List ℕ) where
   -- ---- the two tests
 
-  count-other : Outside 1 16 (get_or input 1 0) → noCount input ≡ true
-  unfolding noCount
-  count-other o = (outside-exactly 1 16 (get_or input 1 0)).1 o
+  count-other : Outside 1 16 (get_or input 1 0) → no_count input ≡ true
+  unfolding no_count
+  count-other o = (outside_exactly 1 16 (get_or input 1 0)).1 o
 
-  count-right : 1 ≤ get_or input 1 0 → get_or input 1 0 ≤ 16 → noCount input ≡ false
-  unfolding noCount
-  count-right some few = rw (le-ltb (get_or input 1 0) 1 some) (le-ltb 16 (get_or input 1 0) few)
+  count_right : 1 ≤ get_or input 1 0 → get_or input 1 0 ≤ 16 → no_count input ≡ false
+  unfolding no_count
+  count_right some few = rw (le-ltb (get_or input 1 0) 1 some) (le-ltb 16 (get_or input 1 0) few)
 
-  bytes-there : 4 + 9 * get_or input 1 0 ≤ length input → tooFew input ≡ false
-  unfolding tooFew
+  bytes-there : 4 + 9 * get_or input 1 0 ≤ length input → too_few input ≡ false
+  unfolding too_few
   bytes-there there = le-ltb (length input) (4 + 9 * get_or input 1 0) there
 
-  bytes-few : length input < 4 + 9 * get_or input 1 0 → tooFew input ≡ true
-  unfolding tooFew
-  bytes-few less = lt-ltb (length input) (4 + 9 * get_or input 1 0) less
+  bytes_few : length input < 4 + 9 * get_or input 1 0 → too_few input ≡ true
+  unfolding too_few
+  bytes_few less = lt-ltb (length input) (4 + 9 * get_or input 1 0) less
 
   -- ---- the end of the table
 
-  ends-input : (noCount input || tooFew input) ≡ true → splitAt input ≡ length input
-  unfolding splitAt
-  ends-input e = rw e
+  ends_input : (no_count input || too_few input) ≡ true → split_at input ≡ length input
+  unfolding split_at
+  ends_input e = rw e
 
-  ends-tasks : (noCount input || tooFew input) ≡ false → splitAt input ≡ 4 + 9 * get_or input 1 0
-  unfolding splitAt
-  ends-tasks e = rw e
+  ends_tasks : (no_count input || too_few input) ≡ false → split_at input ≡ 4 + 9 * get_or input 1 0
+  unfolding split_at
+  ends_tasks e = rw e
 
   -- it is within the input
-  pub split-within : {end : ℕ} → end ≡ splitAt input → end ≤ length input
-  unfolding tooFew
-  split-within {end} p = ⊎_elim (λ e. omega (arith, ends-input e)) (λ e. omega (arith, ends-tasks e, there e)) (true-or-false (noCount input || tooFew input))
+  pub split_within : {end : ℕ} → end ≡ split_at input → end ≤ length input
+  unfolding too_few
+  split_within {end} p = ⊎_elim (λ e. omega (arith, ends_input e)) (λ e. omega (arith, ends_tasks e, there e)) (true_or_false (no_count input || too_few input))
     where
-      there : (noCount input || tooFew input) ≡ false → 4 + 9 * get_or input 1 0 ≤ length input
-      there e = ltb-false (length input) (4 + 9 * get_or input 1 0) (or-false-right (noCount input) (tooFew input) e)
+      there : (no_count input || too_few input) ≡ false → 4 + 9 * get_or input 1 0 ≤ length input
+      there e = ltb-false (length input) (4 + 9 * get_or input 1 0) (or_false_right (no_count input) (too_few input) e)
 
-  pub table-there : {end : ℕ} → end ≡ splitAt input → end ≡ length (take end input)
-  table-there {end} e = sym (length-take-le end input (split-within e))
+  pub table_there : {end : ℕ} → end ≡ split_at input → end ≡ length (take end input)
+  table_there {end} e = sym (length-take-le end input (split_within e))
 
   -- ---- the parts
 
-  all-table : (noCount input || tooFew input) ≡ true → (tableIn input ≡ input) × (listIn input ≡ [])
-  unfolding tableIn listIn
-  all-table e = let all : length input ≤ splitAt input = omega (arith, ends-input e) in (take_all (splitAt input) input all, drop_of_length-le input all)
+  all_table : (no_count input || too_few input) ≡ true → (table_in input ≡ input) × (list_in input ≡ [])
+  unfolding table_in list_in
+  all_table e = let all : length input ≤ split_at input = omega (arith, ends_input e) in (take_all (split_at input) input all, drop_of_length-le input all)
 
-  pub split-is : Split input (tableIn input) (listIn input)
-  unfolding tableIn listIn
-  split-is = record {
+  pub split_is : Split input (table_in input) (list_in input)
+  unfolding table_in list_in
+  split_is = record {
     both = λ some few there.
-        let e : splitAt input ≡ 4 + 9 * get_or input 1 0 = ends-tasks (rw (count-right some few, bytes-there there)) in
-        (take-append-drop (splitAt input) input, length-take-le (splitAt input) input (omega arith) ∙ e);
-    short = λ some few less. all-table (rw (bytes-few less, or-true));
-    other = λ o. all-table (rw (count-other o));
+        let e : split_at input ≡ 4 + 9 * get_or input 1 0 = ends_tasks (rw (count_right some few, bytes-there there)) in
+        (take-append-drop (split_at input) input, length-take-le (split_at input) input (omega arith) ∙ e);
+    short = λ some few less. all_table (rw (bytes_few less, or-true));
+    other = λ o. all_table (rw (count-other o));
   }
 
 -- The step of the program: byte 1 is n, and both are tested.
 module _ (input : List ℕ) {b n : ℕ} {o : Bool} (e : b ≡ get_or input 1 0) (p : (n ≡ b) × (n < 256)) (q : o ≡ outside 1 16 n) where
-  pub end-input : (o || ltb (length input) (4 + 9 * n)) ≡ true → length input ≡ splitAt input
-  unfolding noCount tooFew
-  end-input h = sym (ends-input input (rw (q, p.0, e) at h))
+  pub end_input : (o || ltb (length input) (4 + 9 * n)) ≡ true → length input ≡ split_at input
+  unfolding no_count too_few
+  end_input h = sym (ends_input input (rw (q, p.0, e) at h))
 
-  pub end-tasks : (o || ltb (length input) (4 + 9 * n)) ≡ false → 4 + 9 * n ≡ splitAt input
-  unfolding noCount tooFew
-  end-tasks h = rw (p.0, e) (sym (ends-tasks input (rw (q, p.0, e) at h)))
+  pub end_tasks : (o || ltb (length input) (4 + 9 * n)) ≡ false → 4 + 9 * n ≡ split_at input
+  unfolding no_count too_few
+  end_tasks h = rw (p.0, e) (sym (ends_tasks input (rw (q, p.0, e) at h)))

@@ -8,16 +8,16 @@ use Rattle.taskset.specs.Table.{Table}
 use Rattle.newform.specs.Limits.{new}
 use Rattle.dependencies.specs.Order.{order_of}
 use Rattle.listing.specs.Printed.{printed}
-use Rattle.feedsreport.specs.Split.{tableIn, listIn}
+use Rattle.feedsreport.specs.Split.{table_in, list_in}
 
 -- the line of an order: the first n task numbers of its row
-unfoldable pub orderLine : ℕ → List ℕ → List ℕ
-orderLine n order = decimal (entry order 0) ++ fields (take (n - 1) (drop 1 order)) ++ ascii "\n"
+unfoldable pub order_line : ℕ → List ℕ → List ℕ
+order_line n order = decimal (entry order 0) ++ fields (take (n - 1) (drop 1 order)) ++ ascii "\n"
 
 -- the output for a table and a list: the order of the table's tasks
-unfoldable pub orderOutputOf : Table → List ℕ → List ℕ
-orderOutputOf t list = printed (order_of t list).outcome (orderLine t.fields.n (order_of t list).order)
+unfoldable pub order_output_of : Table → List ℕ → List ℕ
+order_output_of t list = printed (order_of t list).outcome (order_line t.fields.n (order_of t list).order)
 
 -- the output for an input: that for its table and its list
-unfoldable pub feedsOutputOf : List ℕ → List ℕ
-feedsOutputOf input = orderOutputOf (new (tableIn input)) (listIn input)
+unfoldable pub feeds_output_of : List ℕ → List ℕ
+feeds_output_of input = order_output_of (new (table_in input)) (list_in input)

@@ -1,28 +1,28 @@
 -- Where the bytes of an input are split into a table in the new form and the dependency list behind it.
 use Rattle.std.specs.Prelude.{ℕ, ◌+◌, ◌*◌, ◌≤◌, ◌<◌, ◌≡◌, Bool, cond, ◌||◌, List, [], ◌++◌, ltb, length, get_or, take, drop}
 use Rattle.numbers.specs.Bounds.{outside, Outside}
-use Rattle.fields.specs.Most.{mostTasks}
-use Rattle.newform.specs.Form.{taskCount, newLength}
+use Rattle.fields.specs.Most.{most_tasks}
+use Rattle.newform.specs.Form.{task_count, new_length}
 
 -- byte 1 is no number of tasks
-unfoldable pub noCount : List ℕ → Bool
-noCount input = outside 1 mostTasks (taskCount input)
+unfoldable pub no_count : List ℕ → Bool
+no_count input = outside 1 most_tasks (task_count input)
 
 -- there are fewer bytes than so many tasks have
-unfoldable pub tooFew : List ℕ → Bool
-tooFew input = ltb (length input) (newLength (taskCount input))
+unfoldable pub too_few : List ℕ → Bool
+too_few input = ltb (length input) (new_length (task_count input))
 
 -- where the table ends: behind its tasks, or, if either holds, at the end of the input
-unfoldable pub splitAt : List ℕ → ℕ
-splitAt input = cond (noCount input || tooFew input) (length input) (newLength (taskCount input))
+unfoldable pub split_at : List ℕ → ℕ
+split_at input = cond (no_count input || too_few input) (length input) (new_length (task_count input))
 
 -- the table
-unfoldable pub tableIn : List ℕ → List ℕ
-tableIn input = take (splitAt input) input
+unfoldable pub table_in : List ℕ → List ℕ
+table_in input = take (split_at input) input
 
 -- the list
-unfoldable pub listIn : List ℕ → List ℕ
-listIn input = drop (splitAt input) input
+unfoldable pub list_in : List ℕ → List ℕ
+list_in input = drop (split_at input) input
 
 -- The input is split into this table and this list.
 pub record Split (input table list : List ℕ) : Type 0 where

@@ -2,8 +2,8 @@
 ghost use Rattle.std.specs.Prelude.{◌≡◌, ◌≤◌};
 ghost use Rattle.newform.specs.Limits.{new};
 ghost use Rattle.text.specs.Shown.{shown};
-ghost use Rattle.feedsreport.specs.Split.{splitAt, tableIn, listIn, Split};
-ghost use Rattle.feedsreport.specs.Output.{orderLine, orderOutputOf, feedsOutputOf};
+ghost use Rattle.feedsreport.specs.Split.{split_at, table_in, list_in, Split};
+ghost use Rattle.feedsreport.specs.Output.{order_line, order_output_of, feeds_output_of};
 ghost use Rattle.feedsreport.specs.Reported.{Reported, FeedsReadBack};
 
 use fields::MOST_TASKS;
@@ -12,7 +12,7 @@ use text::Text;
 
 // Where the table ends: behind as many tasks as byte 1 says; at the end of the input if that is no number of tasks or there are fewer bytes.
 fn table_end(input: &[u8]) -> usize
-    ensures { result ≡ splitAt input.now }
+    ensures { result ≡ split_at input.now }
 {
     let n = wire::size(wire::byte(input, 1));
     let end = 4 + 9 * n;
@@ -26,7 +26,7 @@ fn table_end(input: &[u8]) -> usize
 // The line of an order: the first `n` task numbers of its row.
 fn order_line(order: [u8; 16], n: usize) -> Text
     requires { (1 ≤ n) × (n ≤ 16) }
-    ensures { shown result ≡ orderLine n order }
+    ensures { shown result ≡ order_line n order }
 {
     let nothing = text::empty();
     let first = decimal::append_decimal(nothing, order[0] as u64);
@@ -36,7 +36,7 @@ fn order_line(order: [u8; 16], n: usize) -> Text
 
 // The output for a table and a list: the order of as many tasks as byte 1 of the table says, or the first refusal alone.
 fn order_report(table: &[u8], list: &[u8]) -> Text
-    ensures { shown result ≡ orderOutputOf (new table.now) list.now }
+    ensures { shown result ≡ order_output_of (new table.now) list.now }
 {
     let answer = dependencies::check_dependencies(table, list);
     let outcome = answer.outcome;
@@ -50,10 +50,10 @@ fn order_report(table: &[u8], list: &[u8]) -> Text
 // The program's output for the bytes of a table and of the list behind it: the order of the tasks, or the first refusal alone. The input may
 // have any length: both parts are lent on as they stand in it, and neither is copied into a row that has to hold it.
 pub fn report(input: &[u8]) -> Text
-    ensures answer { shown result ≡ feedsOutputOf input.now }
-    ensures split { Split input.now (tableIn input.now) (listIn input.now) }
-    ensures reported { Reported (new (tableIn input.now)) (listIn input.now) (shown result) }
-    ensures read_back { FeedsReadBack (new (tableIn input.now)) (listIn input.now) (shown result) }
+    ensures answer { shown result ≡ feeds_output_of input.now }
+    ensures split { Split input.now (table_in input.now) (list_in input.now) }
+    ensures reported { Reported (new (table_in input.now)) (list_in input.now) (shown result) }
+    ensures read_back { FeedsReadBack (new (table_in input.now)) (list_in input.now) (shown result) }
 {
     let end = table_end(input);
     order_report(&input[..end], &input[end..])

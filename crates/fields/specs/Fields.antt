@@ -5,27 +5,27 @@ use Rattle.affinity.specs.Permitted.{permitted}
 use Rattle.fields.specs.declared.Fields.{Fields}
 
 -- the period and the budget (the paper's time) of a task
-abbrev pub periodAt : Fields → ℕ → ℕ
-periodAt f k = entry f.periods k
+abbrev pub period_at : Fields → ℕ → ℕ
+period_at f k = entry f.periods k
 
-abbrev pub budgetAt : Fields → ℕ → ℕ
-budgetAt f k = entry f.budgets k
+abbrev pub budget_at : Fields → ℕ → ℕ
+budget_at f k = entry f.budgets k
 
 -- what a task costs its core for a period: its budget, and the charge (the field's switch cost)
-abbrev pub costAt : Fields → ℕ → ℕ
-costAt f k = budgetAt f k + f.charge
+abbrev pub cost_at : Fields → ℕ → ℕ
+cost_at f k = budget_at f k + f.charge
 
 -- the core byte of a task (the field's affinity)
-abbrev pub affinityAt : Fields → ℕ → ℕ
-affinityAt f k = entry f.affinity k
+abbrev pub affinity_at : Fields → ℕ → ℕ
+affinity_at f k = entry f.affinity k
 
 -- every task permits every core
 abbrev pub Free : Fields → Type 0
-Free f = (k : ℕ) → k < f.n → (core : ℕ) → 1 ≤ core → core ≤ f.m → permitted (affinityAt f k) core ≡ true
+Free f = (k : ℕ) → k < f.n → (core : ℕ) → 1 ≤ core → core ≤ f.m → permitted (affinity_at f k) core ≡ true
 
 -- some task does not permit some core
 abbrev pub Tied : Fields → Type 0
-Tied f = (k : ℕ) × (k < f.n) × (core : ℕ) × (1 ≤ core) × (core ≤ f.m) × (permitted (affinityAt f k) core ≡ false)
+Tied f = (k : ℕ) × (k < f.n) × (core : ℕ) × (1 ≤ core) × (core ≤ f.m) × (permitted (affinity_at f k) core ≡ false)
 
 -- fields as a reader has them: entries beyond n are 0, and there is a core byte for each task
 unfoldable pub cut : Fields → Fields
@@ -33,9 +33,9 @@ cut f = record {
   n = f.n;
   m = f.m;
   charge = f.charge;
-  periods = row 0 f.n (periodAt f);
-  budgets = row 0 f.n (budgetAt f);
-  affinity = row 0 f.n (affinityAt f);
+  periods = row 0 f.n (period_at f);
+  budgets = row 0 f.n (budget_at f);
+  affinity = row 0 f.n (affinity_at f);
   given = f.n;
 }
 
@@ -44,6 +44,6 @@ pub record Alike (f g : Fields) : Type 0 where
   pub tasks : f.n ≡ g.n
   pub cores : f.m ≡ g.m
   pub charge : f.charge ≡ g.charge
-  pub periods : (k : ℕ) → k < f.n → periodAt f k ≡ periodAt g k
-  pub budgets : (k : ℕ) → k < f.n → budgetAt f k ≡ budgetAt g k
-  pub affinity : (k : ℕ) → k < f.n → affinityAt f k ≡ affinityAt g k
+  pub periods : (k : ℕ) → k < f.n → period_at f k ≡ period_at g k
+  pub budgets : (k : ℕ) → k < f.n → budget_at f k ≡ budget_at g k
+  pub affinity : (k : ℕ) → k < f.n → affinity_at f k ≡ affinity_at g k

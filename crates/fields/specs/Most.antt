@@ -2,20 +2,20 @@
 use Rattle.std.specs.Prelude.{ℕ}
 
 -- the most tasks and cores of a table
-abbrev pub mostTasks : ℕ
-mostTasks = 16
+abbrev pub most_tasks : ℕ
+most_tasks = 16
 
-abbrev pub mostCores : ℕ
-mostCores = 4
+abbrev pub most_cores : ℕ
+most_cores = 4
 
 -- the greatest charge
-abbrev pub mostCharge : ℕ
-mostCharge = 9
+abbrev pub most_charge : ℕ
+most_charge = 9
 
 -- the longest period
-abbrev pub longestPeriod : ℕ
-longestPeriod = 10000
+abbrev pub longest_period : ℕ
+longest_period = 10000
 
 -- the greatest hyperperiod
-abbrev pub mostMultiple : ℕ
-mostMultiple = 1000000
+abbrev pub most_multiple : ℕ
+most_multiple = 1000000

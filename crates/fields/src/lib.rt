@@ -1,7 +1,7 @@
 // What a table says, and the tests of its sizes, of the charge and of the row of core bytes.
 ghost use Rattle.std.specs.Prelude.{◌≡◌};
-ghost use Rattle.refusal.specs.Tests.{inOrder};
-ghost use Rattle.fields.specs.Tests.{tasksTest, coresTest, sizeTests, chargeTest, rowTest};
+ghost use Rattle.refusal.specs.Tests.{in_order};
+ghost use Rattle.fields.specs.Tests.{tasks_test, cores_test, size_tests, charge_test, row_test};
 
 use refusal::{Cause, Outcome};
 
@@ -33,7 +33,7 @@ pub struct Fields {
 
 // Number 2.
 fn tasks_test(f: Fields) -> Outcome
-    ensures { result ≡ tasksTest f }
+    ensures { result ≡ tasks_test f }
 {
     refusal::refuse_if(
         numbers::outside(1, MOST_TASKS as u64, f.n as u64),
@@ -43,7 +43,7 @@ fn tasks_test(f: Fields) -> Outcome
 
 // Number 3.
 fn cores_test(f: Fields) -> Outcome
-    ensures { result ≡ coresTest f }
+    ensures { result ≡ cores_test f }
 {
     refusal::refuse_if(
         numbers::outside(1, MOST_CORES as u64, f.m as u64),
@@ -53,7 +53,7 @@ fn cores_test(f: Fields) -> Outcome
 
 // The tests of the sizes: numbers 2 and 3.
 pub fn size_tests(f: Fields) -> Outcome
-    ensures { result ≡ inOrder (sizeTests f) }
+    ensures { result ≡ in_order (size_tests f) }
 {
     let tasks = tasks_test(f);
     let cores = cores_test(f);
@@ -62,14 +62,14 @@ pub fn size_tests(f: Fields) -> Outcome
 
 // Number 13.
 pub fn charge_test(f: Fields) -> Outcome
-    ensures { result ≡ chargeTest f }
+    ensures { result ≡ charge_test f }
 {
     refusal::refuse_if(MOST_CHARGE < f.charge, Cause::Charge)
 }
 
 // Number 15: the row of core bytes has another length than n,
 pub fn row_test(f: Fields) -> Outcome
-    ensures { result ≡ rowTest f }
+    ensures { result ≡ row_test f }
 {
     refusal::refuse_if(f.given != f.n, Cause::Affinity(0))
 }

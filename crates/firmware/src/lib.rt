@@ -1,6 +1,6 @@
 // The plain entry by which the controller's C firmware calls the planner.
 ghost use Rattle.std.specs.Prelude.{◌≡◌, ◌≤◌, length};
-ghost use Rattle.firmware.specs.Call.{called, code_of, codeFor, bufferAfter};
+ghost use Rattle.firmware.specs.Call.{called, code_of, code_for, buffer_after};
 ghost use Rattle.firmware.specs.Service.{Answers, Keeps};
 
 use planner::Verdict;
@@ -20,8 +20,8 @@ fn code(verdict: Verdict) -> u32
 
 // Plans a table in the new form and writes the plan; the entry's work, in a function of its own since the entry then takes less stack.
 fn plan_into(table: &[u8], limit: u32, plan: &mut [u8]) -> u32
-    ensures code { result ≡ codeFor (called table.now (length plan.old)) limit }
-    ensures buffer { plan.new ≡ bufferAfter (called table.now (length plan.old)) limit plan.old }
+    ensures code { result ≡ code_for (called table.now (length plan.old)) limit }
+    ensures buffer { plan.new ≡ buffer_after (called table.now (length plan.old)) limit plan.old }
 {
     let reading = newform::read_new(table);
     let n = reading.tasks.fields.n;
@@ -44,8 +44,8 @@ fn plan_into(table: &[u8], limit: u32, plan: &mut [u8]) -> u32
 // The n core numbers go to the front of `plan`; a refusal writes nothing.
 #[unsafe(no_mangle)]
 pub extern "C" fn millplan_plan(table: &[u8], limit: u32, plan: &mut [u8]) -> u32
-    ensures code { result ≡ codeFor (called table.now (length plan.old)) limit }
-    ensures buffer { plan.new ≡ bufferAfter (called table.now (length plan.old)) limit plan.old }
+    ensures code { result ≡ code_for (called table.now (length plan.old)) limit }
+    ensures buffer { plan.new ≡ buffer_after (called table.now (length plan.old)) limit plan.old }
     ensures answers { Answers (called table.now (length plan.old)) plan.old result plan.new }
     ensures keeps { result ≤ 2 → Keeps (called table.now (length plan.old)) plan.old limit result plan.new }
 {

@@ -1,9 +1,9 @@
 // First fit, on demands in planning order: each task on the lowest permitted core where it still fits, or left out.
 ghost use Rattle.std.specs.Prelude.{◌≡◌, ◌≤◌, take};
 ghost use Rattle.numbers.specs.First.{first};
-ghost use Rattle.allocation.specs.Placement.{problemOf};
-ghost use Rattle.walk.specs.Given.{Ranges, foundOf};
-ghost use Rattle.firstfit.specs.Fit.{holds, fitAnswer};
+ghost use Rattle.allocation.specs.Placement.{problem_of};
+ghost use Rattle.walk.specs.Given.{Ranges, found_of};
+ghost use Rattle.firstfit.specs.Fit.{holds, fit_answer};
 
 use walk::Found;
 
@@ -25,7 +25,7 @@ fn lowest_core(loads: [u32; 4], byte: u8, d: u32, m: usize, h: u32) -> usize
 // First fit of n demands, with their tasks' core bytes, on m cores and the hyperperiod h: a step for each task, and none taken back.
 pub fn first_fit(demands: [u32; 16], affinity: [u8; 16], n: usize, m: usize, h: u32) -> Found
     requires { Ranges demands n m h }
-    ensures { result ≡ foundOf (fitAnswer (problemOf h m (take n demands) (take n affinity))) }
+    ensures { result ≡ found_of (fit_answer (problem_of h m (take n demands) (take n affinity))) }
 {
     let mut placement = [0u8; 16];
     let mut loads = [0u32; 4];

@@ -3,7 +3,7 @@ use Rattle.std.specs.Prelude.{ℕ, ◌+◌, ◌*◌, ◌≤◌, ◌<◌, ◌≡�
 use Rattle.numbers.specs.Rows.{row}
 use Rattle.wire.specs.Bytes.{le32, word_at}
 use Rattle.refusal.specs.declared.Outcome.TheVariants.{Accepted}
-use Rattle.fields.specs.Fields.{periodAt, budgetAt, affinityAt}
+use Rattle.fields.specs.Fields.{period_at, budget_at, affinity_at}
 use Rattle.fields.specs.declared.Fields.{Fields}
 use Rattle.taskset.specs.declared.Reading.{Reading}
 
@@ -25,14 +25,14 @@ fields_at s at lead charge affinity given = record {
 pub record StandsAt (at lead : ℕ) (f : Fields) (s : List ℕ) : Type 0 where
   pub tasks : get_or s at 0 ≡ f.n
   pub cores : get_or s (at + 1) 0 ≡ f.m
-  pub periods : (k : ℕ) → k < f.n → le32 s (lead + 4 * k) ≡ periodAt f k
-  pub budgets : (k : ℕ) → k < f.n → le32 s (lead + 4 * f.n + 4 * k) ≡ budgetAt f k
+  pub periods : (k : ℕ) → k < f.n → le32 s (lead + 4 * k) ≡ period_at f k
+  pub budgets : (k : ℕ) → k < f.n → le32 s (lead + 4 * f.n + 4 * k) ≡ budget_at f k
 
 -- Rows whose entries beyond n are 0.
 pub record Bounded (f : Fields) : Type 0 where
-  pub periods : (k : ℕ) → f.n ≤ k → periodAt f k ≡ 0
-  pub budgets : (k : ℕ) → f.n ≤ k → budgetAt f k ≡ 0
-  pub affinity : (k : ℕ) → f.n ≤ k → affinityAt f k ≡ 0
+  pub periods : (k : ℕ) → f.n ≤ k → period_at f k ≡ 0
+  pub budgets : (k : ℕ) → f.n ≤ k → budget_at f k ≡ 0
+  pub affinity : (k : ℕ) → f.n ≤ k → affinity_at f k ≡ 0
 
 -- What is promised of an accepted reading of these bytes: they are its fields in this form, and its entries beyond n are 0.
 pub record ReadsIn (Form : Fields → List ℕ → Type 0) (s : List ℕ) (r : Reading) : Type 0 where

@@ -1,9 +1,9 @@
 // What the stored forms share: where a table has its sizes and rows, the tests of its shape, and the reading that follows them.
 ghost use Rattle.std.specs.Prelude.{◌≡◌, ◌≤◌};
 ghost use Rattle.refusal.specs.declared.Outcome.TheVariants.{Accepted};
-ghost use Rattle.taskset.specs.Reading.{readingBy};
+ghost use Rattle.taskset.specs.Reading.{reading_by};
 ghost use Rattle.form.specs.Layout.{fields_at};
-ghost use Rattle.form.specs.Shape.{shortTest, lengthTest, shapeOutcome, formOutcome};
+ghost use Rattle.form.specs.Shape.{short_test, length_test, shape_outcome, form_outcome};
 
 use fields::{Fields, MOST_TASKS};
 use refusal::{Cause, Outcome};
@@ -39,21 +39,21 @@ pub fn decode(
 
 // Number 1.
 pub fn short_test(s: &[u8], lead: usize) -> Outcome
-    ensures { result ≡ shortTest lead s.now }
+    ensures { result ≡ short_test lead s.now }
 {
     refusal::refuse_if(s.len() < lead, Cause::TooShort)
 }
 
 // Number 4.
 fn length_test(s: &[u8], size: usize) -> Outcome
-    ensures { result ≡ lengthTest size s.now }
+    ensures { result ≡ length_test size s.now }
 {
     refusal::refuse_if(s.len() != size, Cause::Length)
 }
 
 // The tests of the leading bytes, the sizes of the fields, number 4.
 pub fn shape_tests(front: Outcome, s: &[u8], size: usize, f: Fields) -> Outcome
-    ensures { result ≡ shapeOutcome front size s.now f }
+    ensures { result ≡ shape_outcome front size s.now f }
 {
     let sizes = fields::size_tests(f);
     let exact = length_test(s, size);
@@ -63,7 +63,7 @@ pub fn shape_tests(front: Outcome, s: &[u8], size: usize, f: Fields) -> Outcome
 
 // Reads a table of this size after the tests of its leading bytes: its task set, or the first cause of refusal.
 pub fn read(front: Outcome, s: &[u8], size: usize, f: Fields) -> Reading
-    ensures { result ≡ readingBy (formOutcome front size s.now f) f }
+    ensures { result ≡ reading_by (form_outcome front size s.now f) f }
 {
     let shape = shape_tests(front, s, size, f);
     taskset::check_after(shape, f)

@@ -5,33 +5,33 @@ use mathlib.Core.List.{List}
 use mathlib.Core.Logic.{◌↔◌}
 use lib.ListN.{length}
 use Rattle.refusal.specs.Conditions.{Gives}
-use Rattle.fields.specs.Hyperperiod.{hyperperiodOf}
-use Rattle.taskset.specs.Demands.{loadOn}
+use Rattle.fields.specs.Hyperperiod.{hyperperiod_of}
+use Rattle.taskset.specs.Demands.{load_on}
 use Rattle.taskset.specs.Table.{Table, Sound}
-use Rattle.taskset.proofs.DemandLaws.{demand-exact}
-use Rattle.taskset.proofs.TableLaws.{bare-sound, read-decided, read-reads}
-use Rattle.oldform.proofs.OldLaws.{beside-sound, alone-sound, beside-stored, alone-stored}
-use Rattle.newform.proofs.NewLaws.{new-sound, new-stored}
-use Rattle.bus.proofs.BusLaws.{bus-sound, bus-stored}
-use Rattle.transfer.proofs.CallLaws.{written-sound, returned-sound}
-use Rattle.planner.proofs.PromiseLaws.{plan-decided, plan-promised}
-use Rattle.quick.proofs.PromiseLaws.{quick-decided, quick-fits}
-use Rattle.ceiling.proofs.PromiseLaws.{ceiling-decided, ceiling-promise, few-unspent}
-use Rattle.firmware.proofs.CallLaws.{buffer-sound, call-answers}
-use Rattle.runner.proofs.AnswerLaws.{answer-decides, answer-refused}
+use Rattle.taskset.proofs.DemandLaws.{demand_exact}
+use Rattle.taskset.proofs.TableLaws.{bare_sound, read_decided, read_reads}
+use Rattle.oldform.proofs.OldLaws.{beside_sound, alone_sound, beside-stored, alone-stored}
+use Rattle.newform.proofs.NewLaws.{new_sound, new-stored}
+use Rattle.bus.proofs.BusLaws.{bus_sound, bus-stored}
+use Rattle.transfer.proofs.CallLaws.{written_sound, returned_sound}
+use Rattle.planner.proofs.PromiseLaws.{plan_decided, plan_promised}
+use Rattle.quick.proofs.PromiseLaws.{quick_decided, quick_fits}
+use Rattle.ceiling.proofs.PromiseLaws.{ceiling_decided, ceiling_promise, few_unspent}
+use Rattle.firmware.proofs.CallLaws.{buffer_sound, call_answers}
+use Rattle.runner.proofs.AnswerLaws.{answer_decides, answer_refused}
 use Rattle.start.specs.Starts.{start_of}
-use Rattle.start.proofs.StartLaws.{start-decided, start-promised}
+use Rattle.start.proofs.StartLaws.{start_decided, start_promised}
 use Rattle.guarantees.specs.Demands.{SoundForms, DemandOne, TickDemand, DemandTwo, CeilingDemand, DemandThree, ValidPlacement}
 
-pub sound-forms : SoundForms
-sound-forms = record {
-  besides = beside-sound;
-  alones = alone-sound;
-  news = new-sound;
-  buses = bus-sound;
-  returneds = returned-sound;
-  bares = bare-sound;
-  writtens = written-sound;
+pub sound_forms : SoundForms
+sound_forms = record {
+  besides = beside_sound;
+  alones = alone_sound;
+  news = new_sound;
+  buses = bus_sound;
+  returneds = returned_sound;
+  bares = bare_sound;
+  writtens = written_sound;
   beside-stored = λ table charge affinity. beside-stored table charge affinity refl;
   alone-stored = λ table. alone-stored table refl;
   new-stored = λ table. new-stored table refl;
@@ -39,43 +39,43 @@ sound-forms = record {
 }
 
 pub tick-demand : TickDemand
-tick-demand = record { tick = answer-decides; ticks = answer-refused }
+tick-demand = record { tick = answer_decides; ticks = answer_refused }
 
 module _ {t : Table} (s : Sound t) where
   pub demand-one : DemandOne t
   demand-one = record {
-    within = λ limit v. (plan-decided s limit refl).accepted.1 v;
-    outside = λ limit. (plan-decided s limit refl).refused;
-    quick = quick-decided s refl;
-    ceiling = ceiling-decided s refl;
-    reader = read-decided t refl s;
-    fresh = λ placement core. start-decided s placement core refl;
-    entry = λ buffer limit. call-answers (buffer-sound s (length buffer)) limit buffer;
-    reads = read-reads t refl s;
-    plans = λ limit. plan-promised s limit refl;
-    quicks = (quick-fits s refl).refused;
-    ceilings = (ceiling-promise s refl).refused;
-    starts = λ placement core. start-promised s placement core refl;
-    unchanged = λ buffer limit. (call-answers (buffer-sound s (length buffer)) limit buffer).untouched;
+    within = λ limit v. (plan_decided s limit refl).accepted.1 v;
+    outside = λ limit. (plan_decided s limit refl).refused;
+    quick = quick_decided s refl;
+    ceiling = ceiling_decided s refl;
+    reader = read_decided t refl s;
+    fresh = λ placement core. start_decided s placement core refl;
+    entry = λ buffer limit. call_answers (buffer_sound s (length buffer)) limit buffer;
+    reads = read_reads t refl s;
+    plans = λ limit. plan_promised s limit refl;
+    quicks = (quick_fits s refl).refused;
+    ceilings = (ceiling_promise s refl).refused;
+    starts = λ placement core. start_promised s placement core refl;
+    unchanged = λ buffer limit. (call_answers (buffer_sound s (length buffer)) limit buffer).untouched;
   }
 
   pub demand-two : DemandTwo t
-  demand-two limit v = (plan-promised s limit refl).promise v
+  demand-two limit v = (plan_promised s limit refl).promise v
 
-  pub ceiling-demand : CeilingDemand t
-  ceiling-demand = record {
-    walk = (plan-promised s 0 refl).walks;
-    ceils = (ceiling-promise s refl).valid;
-    unspent = (ceiling-promise s refl).unspent;
-    usual = few-unspent s;
+  pub ceiling_demand : CeilingDemand t
+  ceiling_demand = record {
+    walk = (plan_promised s 0 refl).walks;
+    ceils = (ceiling_promise s refl).valid;
+    unspent = (ceiling_promise s refl).unspent;
+    usual = few_unspent s;
   }
 
   -- a core of a valid table and placement is accepted exactly if its load fits
-  starts-exactly : (placement : List ℕ) (core : ℕ) → t.Valid → ValidPlacement t.fields placement → 1 ≤ core → core ≤ t.fields.m
-      → Gives (start_of t placement core).outcome 0 0 ↔ (loadOn t.fields placement core ≤ hyperperiodOf t.fields)
-  starts-exactly placement core v p least most = (
-    λ e. ((start-decided s placement core refl).accepted.0 e).1.fits,
-    λ h. (start-decided s placement core refl).accepted.1 (
+  starts_exactly : (placement : List ℕ) (core : ℕ) → t.Valid → ValidPlacement t.fields placement → 1 ≤ core → core ≤ t.fields.m
+      → Gives (start_of t placement core).outcome 0 0 ↔ (load_on t.fields placement core ≤ hyperperiod_of t.fields)
+  starts_exactly placement core v p least most = (
+    λ e. ((start_decided s placement core refl).accepted.0 e).1.fits,
+    λ h. (start_decided s placement core refl).accepted.1 (
       v,
       record { exact = p.exact; entries = p.entries; permitted = p.permits; number = (least, most); fits = h },
     ),
@@ -83,7 +83,7 @@ module _ {t : Table} (s : Sound t) where
 
   pub demand-three : DemandThree t
   demand-three = record {
-    accepted = starts-exactly;
-    exact = λ v k h. demand-exact (s.within v) h;
-    ticks = λ placement core e. ((start-promised s placement core refl).accepted e).ticks;
+    accepted = starts_exactly;
+    exact = λ v k h. demand_exact (s.within v) h;
+    ticks = λ placement core e. ((start_promised s placement core refl).accepted e).ticks;
   }

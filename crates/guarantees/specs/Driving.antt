@@ -9,7 +9,7 @@ use Rattle.profile.specs.Periods.{Listed}
 use Rattle.bus.specs.Limits.{bus}
 use Rattle.bus.specs.Promise.{BusReads, BusPlans}
 use Rattle.planner.specs.Plan.{plan_of}
-use Rattle.report.specs.Output.{outputOf}
+use Rattle.report.specs.Output.{output_of}
 
 pub record BusDemand (table : List ℕ) : Type 0 where
   -- A number from 1 on is in the list exactly if it divides 10,000.
@@ -20,4 +20,4 @@ pub record BusDemand (table : List ℕ) : Type 0 where
   -- and, for the same contents, with the exact planner.
   pub plans : (limit : ℕ) → BusPlans table limit (plan_of (bus table) limit)
   -- Unless it is number 22, the program prints what `millplan` prints.
-  pub prints : number_in (bus table).outcome ≢ 22 → outputOf (bus table) ≡ outputOf (new table)
+  pub prints : number_in (bus table).outcome ≢ 22 → output_of (bus table) ≡ output_of (new table)

@@ -2,14 +2,14 @@
 use Rattle.std.specs.Prelude.{ℕ, suc, ◌≡◌, List, [], ◌∷◌}
 use Rattle.numbers.specs.Rows.{row}
 use Rattle.taskset.specs.Table.{Table, Decided}
-use Rattle.feeding.specs.Limits.{fedBy}
+use Rattle.feeding.specs.Limits.{fed_by}
 use Rattle.dependencies.specs.Order.{order_of}
 use Rattle.dependencies.specs.Promise.{Promise, SamePairs, Named}
 
 pub record FeedDemand (t : Table) : Type 0 where
   -- Demand 1: a list within its limits beside a valid table is accepted, and any other call is refused with the number and place of the first
   -- condition that holds: the table's own numbers, then 19, 20 and 21.
-  pub decides : (list : List ℕ) → Decided (fedBy t list) (order_of t list).outcome
+  pub decides : (list : List ℕ) → Decided (fed_by t list) (order_of t list).outcome
   -- An accepted list gives all tasks, each after those that feed it, the lowest ready number first, then zeros, and there is no other such row;
   -- of 21 the place is the lowest task on a circle; a refused list gives sixteen zeros.
   pub orders : (list : List ℕ) → Promise t list (order_of t list)

@@ -7,59 +7,59 @@ use Rattle.refusal.specs.declared.Cause.TheVariants.{Buffer}
 use Rattle.refusal.specs.declared.Outcome.TheVariants.{Accepted}
 use Rattle.taskset.specs.Table.{Table, reading_of}
 use Rattle.fields.specs.declared.Fields.{Fields}
-use Rattle.oldform.specs.Form.{oldTable, everyAffinity, oldBytes}
+use Rattle.oldform.specs.Form.{old_table, every_affinity, old_bytes}
 use Rattle.oldform.specs.Limits.{beside, alone}
-use Rattle.newform.specs.Form.{newTable, newBytes}
+use Rattle.newform.specs.Form.{new_table, new_bytes}
 use Rattle.newform.specs.Limits.{new}
-use Rattle.storing.specs.Lent.{transferOf, exit_of}
+use Rattle.storing.specs.Lent.{transfer_of, exit_of}
 use Rattle.transfer.specs.Tables.{written, returned}
 use Rattle.storing.specs.declared.Transfer.{Transfer}
-use Rattle.planner.specs.Plan.{plan_of, verdictOutcome}
+use Rattle.planner.specs.Plan.{plan_of, verdict_outcome}
 use Rattle.planner.specs.declared.Allocation.{Allocation}
 use Rattle.planner.specs.declared.Verdict.{Verdict}
 use Rattle.planner.specs.declared.Verdict.TheVariants.{All, Short, Spent}
 use Rattle.bus.specs.Limits.{bus}
-use Rattle.quick.specs.Quick.{quickOf}
-use Rattle.ceiling.specs.Ceiling.{ceilingOf}
-use Rattle.quickreport.specs.Output.{quickOutputOf}
-use Rattle.dependencies.specs.Order.{order_of as taskOrderOf}
-use Rattle.feedsreport.specs.Output.{feedsOutputOf}
+use Rattle.quick.specs.Quick.{quick_of}
+use Rattle.ceiling.specs.Ceiling.{ceiling_of}
+use Rattle.quickreport.specs.Output.{quick_output_of}
+use Rattle.dependencies.specs.Order.{order_of as task_order_of}
+use Rattle.feedsreport.specs.Output.{feeds_output_of}
 use Rattle.runs.specs.declared.Run.{Run}
 use Rattle.runs.specs.Runs.{run}
-use Rattle.recording.specs.Tests.{writeAnswer, logAfter}
-use Rattle.replay.specs.Tests.{expandAnswer, rowAfter}
-use Rattle.logwords.specs.Words.{wordsAfter}
+use Rattle.recording.specs.Tests.{write_answer, log_after}
+use Rattle.replay.specs.Tests.{expand_answer, row_after}
+use Rattle.logwords.specs.Words.{words_after}
 use Rattle.edf.specs.declared.Slot.{Slot}
-use Rattle.edf.specs.Slots.{emptySlot}
+use Rattle.edf.specs.Slots.{empty_slot}
 use Rattle.edf.specs.Guarantee.{runs}
 use Rattle.edf.specs.Tick.{tick, ticked}
 use Rattle.start.specs.Starts.{start_of}
 use Rattle.text.specs.Ascii.{ascii}
-use Rattle.report.specs.Output.{planLines, outputOf}
+use Rattle.report.specs.Output.{plan_lines, output_of}
 
 -- A call that stores a table in a lent output: the writer of the new form, the move from the old form, and the move back.
 pub data Storing : Type 0 where
   write : Fields → Storing
-  toNew : List ℕ → Storing
-  toOld : List ℕ → Storing
+  to_new : List ℕ → Storing
+  to_old : List ℕ → Storing
 
 -- the table that it goes by, and the bytes that it makes of the fields
-abbrev pub tableFor : Storing → Table
-tableFor (write fields) = written fields
-tableFor (toNew table) = alone table
-tableFor (toOld table) = returned table
+abbrev pub table_for : Storing → Table
+table_for (write fields) = written fields
+table_for (to_new table) = alone table
+table_for (to_old table) = returned table
 
-abbrev pub bytesFor : Storing → Fields → List ℕ
-bytesFor (write fields) = newBytes
-bytesFor (toNew table) = newBytes
-bytesFor (toOld table) = oldBytes
+abbrev pub bytes_for : Storing → Fields → List ℕ
+bytes_for (write fields) = new_bytes
+bytes_for (to_new table) = new_bytes
+bytes_for (to_old table) = old_bytes
 
 -- its answer for an output of this length, and the output at exit
-abbrev pub answerTo : Storing → ℕ → Transfer
-answerTo call room = transferOf Buffer (bytesFor call) (tableFor call) room
+abbrev pub answer_to : Storing → ℕ → Transfer
+answer_to call room = transfer_of Buffer (bytes_for call) (table_for call) room
 
-abbrev pub outAfter : Storing → List ℕ → List ℕ
-outAfter call out = exit_of Buffer (bytesFor call) (tableFor call) out
+abbrev pub out_after : Storing → List ℕ → List ℕ
+out_after call out = exit_of Buffer (bytes_for call) (table_for call) out
 
 -- A row: a table's hyperperiod; a plan with its verdict, cores, left-out demand and steps; a quick plan with its cores and left-out demand;
 -- a step ceiling; a refusal with its number and place; a fresh core's slots, or its refusal; the tasks run by the ticks of a fresh core; one tick of
@@ -75,27 +75,27 @@ pub data Row : Type 0 where
   ceilings : List ℕ → ℕ → Row
   refuses : List ℕ → ℕ → ℕ → ℕ → Row
   starts : List ℕ → List ℕ → ℕ → List Slot → Row
-  refusesCore : List ℕ → List ℕ → ℕ → ℕ → ℕ → Row
+  refuses_core : List ℕ → List ℕ → ℕ → ℕ → ℕ → Row
   ticks : List ℕ → List ℕ → ℕ → List (List ℕ) → List ℕ → Row
-  tickOnce : List Slot → List ℕ → ℕ → ℕ → List Slot → Row
-  refusesTick : List Slot → ℕ → Row
-  readsNew : List ℕ → Fields → ℕ → Row
-  refusesNew : List ℕ → ℕ → ℕ → Row
+  tick_once : List Slot → List ℕ → ℕ → ℕ → List Slot → Row
+  refuses_tick : List Slot → ℕ → Row
+  reads_new : List ℕ → Fields → ℕ → Row
+  refuses_new : List ℕ → ℕ → ℕ → Row
   stores : Storing → List ℕ → ℕ → List ℕ → Row
-  refusesStore : Storing → List ℕ → ℕ → ℕ → Row
+  refuses_store : Storing → List ℕ → ℕ → ℕ → Row
   prints : List ℕ → String → Row
-  printsQuick : List ℕ → String → Row
+  prints_quick : List ℕ → String → Row
   lists : List ℕ → Allocation → String → Row
   orders : List ℕ → List ℕ → List ℕ → Row
-  refusesList : List ℕ → List ℕ → ℕ → ℕ → Row
-  printsOrder : List ℕ → String → Row
-  framesBus : List ℕ → ℕ → Row
-  refusesBus : List ℕ → ℕ → ℕ → Row
-  plansBus : List ℕ → ℕ → Verdict → List ℕ → ℕ → ℕ → Row
-  printsBus : List ℕ → String → Row
-  writesLog : List ℕ → List Run → ℕ → ℕ → ℕ → List Run → Row
-  expandsLog : List Run → List ℕ → ℕ → ℕ → ℕ → List ℕ → Row
-  writesWords : List ℕ → List ℕ → List ℕ → Row
+  refuses_list : List ℕ → List ℕ → ℕ → ℕ → Row
+  prints_order : List ℕ → String → Row
+  frames_bus : List ℕ → ℕ → Row
+  refuses_bus : List ℕ → ℕ → ℕ → Row
+  plans_bus : List ℕ → ℕ → Verdict → List ℕ → ℕ → ℕ → Row
+  prints_bus : List ℕ → String → Row
+  writes_log : List ℕ → List Run → ℕ → ℕ → ℕ → List Run → Row
+  expands_log : List Run → List ℕ → ℕ → ℕ → ℕ → List ℕ → Row
+  writes_words : List ℕ → List ℕ → List ℕ → Row
   charged : ℕ → Row → Row
   tied : List ℕ → Row → Row
 
@@ -105,111 +105,111 @@ Holds charge bytes (frames table hyperperiod) = (reading_of (beside table charge
 Holds charge bytes (plans table limit verdict cores rejected steps) =
     plan_of (beside table charge (bytes table)) limit ≡ record { verdict = verdict; placement = row 0 (length cores) (entry cores); rejected = rejected; steps = steps }
 Holds charge bytes (quick table cores rejected) =
-    quickOf (beside table charge (bytes table)) ≡ record { outcome = Accepted; placement = row 0 (length cores) (entry cores); rejected = rejected }
-Holds charge bytes (ceilings table ceiling) = ceilingOf (beside table charge (bytes table)) ≡ record { outcome = Accepted; ceiling = ceiling }
-Holds charge bytes (refuses table limit number place) = Gives (verdictOutcome (plan_of (beside table charge (bytes table)) limit).verdict) number place
+    quick_of (beside table charge (bytes table)) ≡ record { outcome = Accepted; placement = row 0 (length cores) (entry cores); rejected = rejected }
+Holds charge bytes (ceilings table ceiling) = ceiling_of (beside table charge (bytes table)) ≡ record { outcome = Accepted; ceiling = ceiling }
+Holds charge bytes (refuses table limit number place) = Gives (verdict_outcome (plan_of (beside table charge (bytes table)) limit).verdict) number place
 Holds charge bytes (starts table placement core slots) =
     start_of (beside table charge (bytes table)) placement core ≡ record { outcome = Accepted; core = record { slots = slots; charge = charge } }
-Holds charge bytes (refusesCore table placement core number place) = Gives (start_of (beside table charge (bytes table)) placement core).outcome number place
+Holds charge bytes (refuses_core table placement core number place) = Gives (start_of (beside table charge (bytes table)) placement core).outcome number place
 Holds charge bytes (ticks table placement core requests ran) =
     runs (ticked (start_of (beside table charge (bytes table)) placement core).core.charge (start_of (beside table charge (bytes table)) placement core).core.slots requests) ≡ ran
-Holds charge bytes (tickOnce slots requests run late next) =
+Holds charge bytes (tick_once slots requests run late next) =
     tick charge slots requests ≡ record { refusal = 0; place = 0; charge = charge; slots = next; run = run; late = late }
-Holds charge bytes (refusesTick slots place) = tick charge slots [] ≡ record { refusal = 12; place = place; charge = charge; slots = slots; run = 0; late = 0 }
-Holds charge bytes (readsNew table fields hyperperiod) =
+Holds charge bytes (refuses_tick slots place) = tick charge slots [] ≡ record { refusal = 12; place = place; charge = charge; slots = slots; run = 0; late = 0 }
+Holds charge bytes (reads_new table fields hyperperiod) =
     ((reading_of (new table)).outcome ≡ Accepted) × ((reading_of (new table)).tasks.fields ≡ fields) × ((reading_of (new table)).tasks.hyperperiod ≡ hyperperiod)
-Holds charge bytes (refusesNew table number place) = Gives (reading_of (new table)).outcome number place
-Holds charge bytes (stores call out size after) = (answerTo call (length out) ≡ record { outcome = Accepted; length = size }) × (outAfter call out ≡ after)
-Holds charge bytes (refusesStore call out number place) =
-    Gives (answerTo call (length out)).outcome number place × ((answerTo call (length out)).length ≡ 0) × (outAfter call out ≡ out)
-Holds charge bytes (prints table output) = outputOf (new table) ≡ ascii output
-Holds charge bytes (printsQuick table output) = quickOutputOf (new table) ≡ ascii output
-Holds charge bytes (lists table plan output) = planLines (reading_of (new table)).tasks plan ≡ ascii output
-Holds charge bytes (orders table list tasks) = taskOrderOf (new table) list ≡ record { outcome = Accepted; order = row 0 (length tasks) (entry tasks) }
-Holds charge bytes (refusesList table list number place) = Gives (taskOrderOf (new table) list).outcome number place × ((taskOrderOf (new table) list).order ≡ replicate 16 0)
-Holds charge bytes (printsOrder input output) = feedsOutputOf input ≡ ascii output
-Holds charge bytes (framesBus table hyperperiod) = ((reading_of (bus table)).outcome ≡ Accepted) × ((reading_of (bus table)).tasks.hyperperiod ≡ hyperperiod)
-Holds charge bytes (refusesBus table number place) =
-    Gives (reading_of (bus table)).outcome number place × Gives (verdictOutcome (plan_of (bus table) 1000000).verdict) number place
-Holds charge bytes (plansBus table limit verdict cores rejected steps) =
+Holds charge bytes (refuses_new table number place) = Gives (reading_of (new table)).outcome number place
+Holds charge bytes (stores call out size after) = (answer_to call (length out) ≡ record { outcome = Accepted; length = size }) × (out_after call out ≡ after)
+Holds charge bytes (refuses_store call out number place) =
+    Gives (answer_to call (length out)).outcome number place × ((answer_to call (length out)).length ≡ 0) × (out_after call out ≡ out)
+Holds charge bytes (prints table output) = output_of (new table) ≡ ascii output
+Holds charge bytes (prints_quick table output) = quick_output_of (new table) ≡ ascii output
+Holds charge bytes (lists table plan output) = plan_lines (reading_of (new table)).tasks plan ≡ ascii output
+Holds charge bytes (orders table list tasks) = task_order_of (new table) list ≡ record { outcome = Accepted; order = row 0 (length tasks) (entry tasks) }
+Holds charge bytes (refuses_list table list number place) = Gives (task_order_of (new table) list).outcome number place × ((task_order_of (new table) list).order ≡ replicate 16 0)
+Holds charge bytes (prints_order input output) = feeds_output_of input ≡ ascii output
+Holds charge bytes (frames_bus table hyperperiod) = ((reading_of (bus table)).outcome ≡ Accepted) × ((reading_of (bus table)).tasks.hyperperiod ≡ hyperperiod)
+Holds charge bytes (refuses_bus table number place) =
+    Gives (reading_of (bus table)).outcome number place × Gives (verdict_outcome (plan_of (bus table) 1000000).verdict) number place
+Holds charge bytes (plans_bus table limit verdict cores rejected steps) =
     plan_of (bus table) limit ≡ record { verdict = verdict; placement = row 0 (length cores) (entry cores); rejected = rejected; steps = steps }
-Holds charge bytes (printsBus table output) = outputOf (bus table) ≡ ascii output
-Holds charge bytes (writesLog answers before number place count after) =
-    (Gives (writeAnswer answers (length before)).outcome number place × ((writeAnswer answers (length before)).count ≡ count)) × (logAfter answers before ≡ after)
-Holds charge bytes (expandsLog records before number place count after) =
-    (Gives (expandAnswer records (length before)).outcome number place × ((expandAnswer records (length before)).count ≡ count)) × (rowAfter records before ≡ after)
-Holds charge bytes (writesWords answers before after) = wordsAfter answers before ≡ after
+Holds charge bytes (prints_bus table output) = output_of (bus table) ≡ ascii output
+Holds charge bytes (writes_log answers before number place count after) =
+    (Gives (write_answer answers (length before)).outcome number place × ((write_answer answers (length before)).count ≡ count)) × (log_after answers before ≡ after)
+Holds charge bytes (expands_log records before number place count after) =
+    (Gives (expand_answer records (length before)).outcome number place × ((expand_answer records (length before)).count ≡ count)) × (row_after records before ≡ after)
+Holds charge bytes (writes_words answers before after) = words_after answers before ≡ after
 Holds charge bytes (charged own row) = Holds own bytes row
 Holds charge bytes (tied own row) = Holds charge (λ table. own) row
 
 -- every row of a list holds; where a row names no charge, it is 0, and where it names no core bytes, every core is permitted
 abbrev pub AllHold : List Row → Type 0
 AllHold [] = Unit {0}
-AllHold (r ∷ rs) = Holds 0 everyAffinity r × AllHold rs
+AllHold (r ∷ rs) = Holds 0 every_affinity r × AllHold rs
 
 -- the table of the listing, and that of row c
 abbrev pub listing : List ℕ
-listing = oldTable 1 (10 ∷ 10 ∷ 10 ∷ []) (7 ∷ 6 ∷ 4 ∷ [])
+listing = old_table 1 (10 ∷ 10 ∷ 10 ∷ []) (7 ∷ 6 ∷ 4 ∷ [])
 
-abbrev pub rowC : List ℕ
-rowC = oldTable 1 (2 ∷ 3 ∷ 6 ∷ []) (1 ∷ 1 ∷ 1 ∷ [])
+abbrev pub row_c : List ℕ
+row_c = old_table 1 (2 ∷ 3 ∷ 6 ∷ []) (1 ∷ 1 ∷ 1 ∷ [])
 
 -- those of rows a and d, and one whose six tasks fill its two cores
-abbrev pub rowA : List ℕ
-rowA = oldTable 1 (10 ∷ 10 ∷ []) (3 ∷ 7 ∷ [])
+abbrev pub row_a : List ℕ
+row_a = old_table 1 (10 ∷ 10 ∷ []) (3 ∷ 7 ∷ [])
 
-abbrev pub rowD : List ℕ
-rowD = oldTable 2 (10 ∷ 10 ∷ 10 ∷ 10 ∷ 10 ∷ []) (5 ∷ 5 ∷ 4 ∷ 3 ∷ 3 ∷ [])
+abbrev pub row_d : List ℕ
+row_d = old_table 2 (10 ∷ 10 ∷ 10 ∷ 10 ∷ 10 ∷ []) (5 ∷ 5 ∷ 4 ∷ 3 ∷ 3 ∷ [])
 
 abbrev pub packed : List ℕ
-packed = oldTable 2 (10 ∷ 10 ∷ 10 ∷ 10 ∷ 10 ∷ 10 ∷ []) (5 ∷ 4 ∷ 3 ∷ 3 ∷ 3 ∷ 2 ∷ [])
+packed = old_table 2 (10 ∷ 10 ∷ 10 ∷ 10 ∷ 10 ∷ 10 ∷ []) (5 ∷ 4 ∷ 3 ∷ 3 ∷ 3 ∷ 2 ∷ [])
 
 -- one in the new form, whose weights are no times: two tasks of weights 4 and 7 on a core that holds 10
 abbrev pub crowded : List ℕ
-crowded = newTable 1 0 (5 ∷ 10 ∷ []) (2 ∷ 7 ∷ []) (1 ∷ 1 ∷ [])
+crowded = new_table 1 0 (5 ∷ 10 ∷ []) (2 ∷ 7 ∷ []) (1 ∷ 1 ∷ [])
 
 -- five tasks of which no two fit together, on four cores; seven tasks on three
 abbrev pub five : List ℕ
-five = oldTable 4 (10 ∷ 10 ∷ 10 ∷ 10 ∷ 10 ∷ []) (6 ∷ 6 ∷ 6 ∷ 6 ∷ 6 ∷ [])
+five = old_table 4 (10 ∷ 10 ∷ 10 ∷ 10 ∷ 10 ∷ []) (6 ∷ 6 ∷ 6 ∷ 6 ∷ 6 ∷ [])
 
 abbrev pub seven : List ℕ
-seven = oldTable 3 (10 ∷ 10 ∷ 10 ∷ 10 ∷ 10 ∷ 10 ∷ 10 ∷ []) (9 ∷ 8 ∷ 6 ∷ 6 ∷ 5 ∷ 4 ∷ 3 ∷ [])
+seven = old_table 3 (10 ∷ 10 ∷ 10 ∷ 10 ∷ 10 ∷ 10 ∷ 10 ∷ []) (9 ∷ 8 ∷ 6 ∷ 6 ∷ 5 ∷ 4 ∷ 3 ∷ [])
 
 -- two tasks that no core holds together, of weights 50 and 55 of 100; with charge 1 they are 60 and 56
 abbrev pub swapped : List ℕ
-swapped = oldTable 2 (10 ∷ 100 ∷ []) (5 ∷ 55 ∷ [])
+swapped = old_table 2 (10 ∷ 100 ∷ []) (5 ∷ 55 ∷ [])
 
 -- sixteen requests: full ones, and the same with none from task 1
 abbrev pub full : List ℕ
 full = replicate 16 4294967295
 
-abbrev pub firstSilent : List ℕ
-firstSilent = 0 ∷ replicate 15 4294967295
+abbrev pub first_silent : List ℕ
+first_silent = 0 ∷ replicate 15 4294967295
 
 -- a slot, and a record with some in front
 abbrev pub slot : ℕ → ℕ → ℕ → ℕ → Slot
 slot period budget until remaining = record { period = period; budget = budget; until = until; remaining = remaining }
 
 abbrev pub front : List Slot → List Slot
-front slots = slots ++ replicate (16 - length slots) emptySlot
+front slots = slots ++ replicate (16 - length slots) empty_slot
 
 -- two and three full tasks on as many cores
 abbrev pub two : List ℕ
-two = oldTable 2 (4 ∷ 4 ∷ []) (4 ∷ 4 ∷ [])
+two = old_table 2 (4 ∷ 4 ∷ []) (4 ∷ 4 ∷ [])
 
 abbrev pub three : List ℕ
-three = oldTable 3 (4 ∷ 4 ∷ 4 ∷ []) (4 ∷ 4 ∷ 4 ∷ [])
+three = old_table 3 (4 ∷ 4 ∷ 4 ∷ []) (4 ∷ 4 ∷ 4 ∷ [])
 
 -- three tasks of these times on two cores
 abbrev pub loose : ℕ → ℕ → ℕ → List ℕ
-loose a b c = oldTable 2 (10 ∷ 10 ∷ 10 ∷ []) (a ∷ b ∷ c ∷ [])
+loose a b c = old_table 2 (10 ∷ 10 ∷ 10 ∷ []) (a ∷ b ∷ c ∷ [])
 
 -- the listing's table in both forms, byte by byte
-abbrev pub oldListing : List ℕ
-oldListing = 3 ∷ 1 ∷ 10 ∷ 0 ∷ 0 ∷ 0 ∷ 10 ∷ 0 ∷ 0 ∷ 0 ∷ 10 ∷ 0 ∷ 0 ∷ 0 ∷ 7 ∷ 0 ∷ 0 ∷ 0 ∷ 6 ∷ 0 ∷ 0 ∷ 0 ∷ 4 ∷ 0 ∷ 0 ∷ 0 ∷ []
+abbrev pub old_listing : List ℕ
+old_listing = 3 ∷ 1 ∷ 10 ∷ 0 ∷ 0 ∷ 0 ∷ 10 ∷ 0 ∷ 0 ∷ 0 ∷ 10 ∷ 0 ∷ 0 ∷ 0 ∷ 7 ∷ 0 ∷ 0 ∷ 0 ∷ 6 ∷ 0 ∷ 0 ∷ 0 ∷ 4 ∷ 0 ∷ 0 ∷ 0 ∷ []
 
-abbrev pub newListing : List ℕ
-newListing =
+abbrev pub new_listing : List ℕ
+new_listing =
     0 ∷ 3 ∷ 1 ∷ 0 ∷ 10 ∷ 0 ∷ 0 ∷ 0 ∷ 10 ∷ 0 ∷ 0 ∷ 0 ∷ 10 ∷ 0 ∷ 0 ∷ 0 ∷ 7 ∷ 0 ∷ 0 ∷ 0 ∷ 6 ∷ 0 ∷ 0 ∷ 0 ∷ 4 ∷ 0 ∷ 0 ∷ 0 ∷ 1 ∷ 1 ∷ 1 ∷ []
 
 -- the same for three tasks on two cores with a charge of 4, each part other than the rest: periods 10, 20 and 300, times 5, 8 and 140, and
@@ -219,8 +219,8 @@ board =
     0 ∷ 3 ∷ 2 ∷ 4 ∷ 10 ∷ 0 ∷ 0 ∷ 0 ∷ 20 ∷ 0 ∷ 0 ∷ 0 ∷ 44 ∷ 1 ∷ 0 ∷ 0 ∷ 5 ∷ 0 ∷ 0 ∷ 0 ∷ 8 ∷ 0 ∷ 0 ∷ 0 ∷ 140 ∷ 0 ∷ 0 ∷ 0 ∷ 2 ∷ 3 ∷ 1 ∷ []
 
 -- these numbers as fields, with this number of core bytes and this behind each row of three
-abbrev pub boardFields : ℕ → List ℕ → Fields
-boardFields given rest = record {
+abbrev pub board_fields : ℕ → List ℕ → Fields
+board_fields given rest = record {
   n = 3;
   m = 2;
   charge = 4;
@@ -233,7 +233,7 @@ boardFields given rest = record {
 -- sixteen tasks on four cores with each core byte, and core 4 alone twice
 abbrev pub sixteen : List ℕ
 sixteen =
-    newTable 4 0 (10000 ∷ 5000 ∷ 2500 ∷ 2000 ∷ 1250 ∷ 1000 ∷ 625 ∷ 500 ∷ 400 ∷ 250 ∷ 200 ∷ 125 ∷ 100 ∷ 50 ∷ 20 ∷ 10 ∷ [])
+    new_table 4 0 (10000 ∷ 5000 ∷ 2500 ∷ 2000 ∷ 1250 ∷ 1000 ∷ 625 ∷ 500 ∷ 400 ∷ 250 ∷ 200 ∷ 125 ∷ 100 ∷ 50 ∷ 20 ∷ 10 ∷ [])
     (3500 ∷ 850 ∷ 770 ∷ 630 ∷ 350 ∷ 315 ∷ 210 ∷ 180 ∷ 105 ∷ 77 ∷ 42 ∷ 31 ∷ 21 ∷ 10 ∷ 4 ∷ 2 ∷ [])
     (1 ∷ 2 ∷ 3 ∷ 4 ∷ 5 ∷ 6 ∷ 7 ∷ 8 ∷ 9 ∷ 10 ∷ 11 ∷ 12 ∷ 13 ∷ 14 ∷ 15 ∷ 8 ∷ [])
 
@@ -244,43 +244,43 @@ sixteen =
 -- with a bit above core m, before the room.
 unfoldable pub moves : List Row
 moves =
-    stores (toNew oldListing) (replicate 33 9) 31 (newListing ++ 9 ∷ 9 ∷ [])
-    ∷ stores (toOld newListing) (replicate 27 9) 26 (oldListing ++ 9 ∷ [])
-    ∷ stores (toNew (1 ∷ 2 ∷ 16 ∷ 39 ∷ 0 ∷ 0 ∷ 7 ∷ 1 ∷ 0 ∷ 0 ∷ [])) (replicate 13 9) 13 (0 ∷ 1 ∷ 2 ∷ 0 ∷ 16 ∷ 39 ∷ 0 ∷ 0 ∷ 7 ∷ 1 ∷ 0 ∷ 0 ∷ 3 ∷ [])
-    ∷ stores (write (boardFields 0 (replicate 13 255))) (replicate 33 9) 31 (board ++ 9 ∷ 9 ∷ [])
-    ∷ refusesStore (toOld (0 ∷ 1 ∷ 2 ∷ 0 ∷ 10 ∷ 0 ∷ 0 ∷ 0 ∷ 7 ∷ 0 ∷ 0 ∷ 0 ∷ 1 ∷ [])) (replicate 10 9) 18 0
-    ∷ refusesStore (toOld (0 ∷ 1 ∷ 1 ∷ 1 ∷ 10 ∷ 0 ∷ 0 ∷ 0 ∷ 7 ∷ 0 ∷ 0 ∷ 0 ∷ 1 ∷ [])) [] 18 0
-    ∷ refusesStore (toOld (newTable 2 1 (1000 ∷ 1001 ∷ []) (1 ∷ 1 ∷ []) (3 ∷ 1 ∷ []))) [] 7 2
-    ∷ refusesStore (toOld newListing) (replicate 25 9) 8 0
-    ∷ refusesStore (toNew oldListing) (replicate 30 9) 8 0
-    ∷ refusesStore (write (boardFields 0 [])) (replicate 30 9) 8 0
-    ∷ refusesStore (toOld oldListing) (replicate 26 9) 17 0
-    ∷ refusesStore (toNew newListing) (replicate 31 9) 2 0
-    ∷ refusesStore (write (record { n = 259; m = 1; charge = 0; periods = 10 ∷ []; budgets = 7 ∷ []; affinity = 1 ∷ []; given = 1 })) [] 2 0
-    ∷ refusesStore (write (record { n = 1; m = 1; charge = 256; periods = 10 ∷ []; budgets = 7 ∷ []; affinity = 1 ∷ []; given = 1 })) [] 13 0
-    ∷ refusesStore (write (record { n = 2; m = 1; charge = 3; periods = 10 ∷ 10 ∷ []; budgets = 7 ∷ 7 ∷ []; affinity = 1 ∷ 2 ∷ []; given = 1 })) [] 15 2
+    stores (to_new old_listing) (replicate 33 9) 31 (new_listing ++ 9 ∷ 9 ∷ [])
+    ∷ stores (to_old new_listing) (replicate 27 9) 26 (old_listing ++ 9 ∷ [])
+    ∷ stores (to_new (1 ∷ 2 ∷ 16 ∷ 39 ∷ 0 ∷ 0 ∷ 7 ∷ 1 ∷ 0 ∷ 0 ∷ [])) (replicate 13 9) 13 (0 ∷ 1 ∷ 2 ∷ 0 ∷ 16 ∷ 39 ∷ 0 ∷ 0 ∷ 7 ∷ 1 ∷ 0 ∷ 0 ∷ 3 ∷ [])
+    ∷ stores (write (board_fields 0 (replicate 13 255))) (replicate 33 9) 31 (board ++ 9 ∷ 9 ∷ [])
+    ∷ refuses_store (to_old (0 ∷ 1 ∷ 2 ∷ 0 ∷ 10 ∷ 0 ∷ 0 ∷ 0 ∷ 7 ∷ 0 ∷ 0 ∷ 0 ∷ 1 ∷ [])) (replicate 10 9) 18 0
+    ∷ refuses_store (to_old (0 ∷ 1 ∷ 1 ∷ 1 ∷ 10 ∷ 0 ∷ 0 ∷ 0 ∷ 7 ∷ 0 ∷ 0 ∷ 0 ∷ 1 ∷ [])) [] 18 0
+    ∷ refuses_store (to_old (new_table 2 1 (1000 ∷ 1001 ∷ []) (1 ∷ 1 ∷ []) (3 ∷ 1 ∷ []))) [] 7 2
+    ∷ refuses_store (to_old new_listing) (replicate 25 9) 8 0
+    ∷ refuses_store (to_new old_listing) (replicate 30 9) 8 0
+    ∷ refuses_store (write (board_fields 0 [])) (replicate 30 9) 8 0
+    ∷ refuses_store (to_old old_listing) (replicate 26 9) 17 0
+    ∷ refuses_store (to_new new_listing) (replicate 31 9) 2 0
+    ∷ refuses_store (write (record { n = 259; m = 1; charge = 0; periods = 10 ∷ []; budgets = 7 ∷ []; affinity = 1 ∷ []; given = 1 })) [] 2 0
+    ∷ refuses_store (write (record { n = 1; m = 1; charge = 256; periods = 10 ∷ []; budgets = 7 ∷ []; affinity = 1 ∷ []; given = 1 })) [] 13 0
+    ∷ refuses_store (write (record { n = 2; m = 1; charge = 3; periods = 10 ∷ 10 ∷ []; budgets = 7 ∷ 7 ∷ []; affinity = 1 ∷ 2 ∷ []; given = 1 })) [] 15 2
     ∷ []
 
 -- The new form, read and printed. Three tasks of which each number stands in its own place. Fewer than 4 bytes are refused before the first byte is
 -- looked at, an old table by its first byte, before a size; a table of the old form's length by its length; a charge after that and before a
 -- period; a byte with a bit above core m for its task. Both programs go by the charge and the core bytes of the table. Every task number and
 -- every core byte as it is printed.
-unfoldable pub newTables : List Row
-newTables =
-    readsNew board (boardFields 3 (replicate 13 0)) 300
+unfoldable pub new_tables : List Row
+new_tables =
+    reads_new board (board_fields 3 (replicate 13 0)) 300
     ∷ prints board "table 3 2 300\n1 10 5 2 1 2\n2 20 8 1 2 1\n3 300 140 0 1 1\nshort 144 3\n"
-    ∷ printsQuick (newTable 2 0 (4 ∷ 4 ∷ []) (4 ∷ 4 ∷ []) (3 ∷ 1 ∷ [])) "table 2 2 4\n1 4 4 1 2 1\n2 4 4 0 1 1\nquick 4\n"
-    ∷ printsQuick sixteen "table 16 4 10000\n1 10000 3500 1 1 1\n2 5000 850 0 1 2\n3 2500 770 1 2 1\n4 2000 630 3 1 3\n5 1250 350 3 2 1\n6 1000 315 2 2 2\n7 625 210 1 3 1\n8 500 180 4 1 4\n9 400 105 4 2 1\n10 250 77 2 2 2\n11 200 42 2 3 1\n12 125 31 3 2 3\n13 100 21 4 3 1\n14 50 10 0 3 2\n15 20 4 0 4 1\n16 10 2 0 1 4\nquick 7700\n"
+    ∷ prints_quick (new_table 2 0 (4 ∷ 4 ∷ []) (4 ∷ 4 ∷ []) (3 ∷ 1 ∷ [])) "table 2 2 4\n1 4 4 1 2 1\n2 4 4 0 1 1\nquick 4\n"
+    ∷ prints_quick sixteen "table 16 4 10000\n1 10000 3500 1 1 1\n2 5000 850 0 1 2\n3 2500 770 1 2 1\n4 2000 630 3 1 3\n5 1250 350 3 2 1\n6 1000 315 2 2 2\n7 625 210 1 3 1\n8 500 180 4 1 4\n9 400 105 4 2 1\n10 250 77 2 2 2\n11 200 42 2 3 1\n12 125 31 3 2 3\n13 100 21 4 3 1\n14 50 10 0 3 2\n15 20 4 0 4 1\n16 10 2 0 1 4\nquick 7700\n"
     ∷ prints (5 ∷ 1 ∷ 1 ∷ []) "refused 1 0\n"
     ∷ prints listing "refused 17 0\n"
     ∷ prints (0 ∷ 1 ∷ 1 ∷ 0 ∷ 10 ∷ 0 ∷ 0 ∷ 0 ∷ 1 ∷ 0 ∷ []) "refused 4 0\n"
-    ∷ prints (newTable 1 10 (0 ∷ []) (1 ∷ []) (1 ∷ [])) "refused 13 0\n"
-    ∷ prints (newTable 2 0 (1000 ∷ 1001 ∷ 10 ∷ []) (1 ∷ 1 ∷ 1 ∷ []) (3 ∷ 1 ∷ 4 ∷ [])) "refused 15 3\n"
-    ∷ refusesNew (1 ∷ 17 ∷ 5 ∷ 10 ∷ []) 17 0
-    ∷ refusesNew (0 ∷ 17 ∷ 5 ∷ 10 ∷ []) 2 0
-    ∷ refusesNew (0 ∷ 1 ∷ 5 ∷ 10 ∷ []) 3 0
-    ∷ refusesNew (0 ∷ 1 ∷ 4 ∷ 10 ∷ []) 4 0
-    ∷ refusesNew (newTable 1 4 (10 ∷ 10 ∷ []) (6 ∷ 7 ∷ []) (1 ∷ 0 ∷ [])) 14 2
+    ∷ prints (new_table 1 10 (0 ∷ []) (1 ∷ []) (1 ∷ [])) "refused 13 0\n"
+    ∷ prints (new_table 2 0 (1000 ∷ 1001 ∷ 10 ∷ []) (1 ∷ 1 ∷ 1 ∷ []) (3 ∷ 1 ∷ 4 ∷ [])) "refused 15 3\n"
+    ∷ refuses_new (1 ∷ 17 ∷ 5 ∷ 10 ∷ []) 17 0
+    ∷ refuses_new (0 ∷ 17 ∷ 5 ∷ 10 ∷ []) 2 0
+    ∷ refuses_new (0 ∷ 1 ∷ 5 ∷ 10 ∷ []) 3 0
+    ∷ refuses_new (0 ∷ 1 ∷ 4 ∷ 10 ∷ []) 4 0
+    ∷ refuses_new (new_table 1 4 (10 ∷ 10 ∷ []) (6 ∷ 7 ∷ []) (1 ∷ 0 ∷ [])) 14 2
     ∷ []
 
 -- Tasks tied to cores. Two full tasks that want each other's core: the rule of the empty core alone would lose the plan. Three full tasks, of which
@@ -293,25 +293,25 @@ unfoldable pub ties : List Row
 ties =
     tied (2 ∷ 1 ∷ []) (plans two 1000000 All (2 ∷ 1 ∷ []) 0 2)
     ∷ tied (3 ∷ 6 ∷ 1 ∷ []) (plans three 1000000 All (2 ∷ 3 ∷ 1 ∷ []) 0 7)
-    ∷ tied (5 ∷ 2 ∷ 2 ∷ []) (plans (oldTable 3 (4 ∷ 4 ∷ 4 ∷ []) (1 ∷ 1 ∷ 4 ∷ [])) 1000000 Short (1 ∷ 0 ∷ 2 ∷ []) 1 3)
+    ∷ tied (5 ∷ 2 ∷ 2 ∷ []) (plans (old_table 3 (4 ∷ 4 ∷ 4 ∷ []) (1 ∷ 1 ∷ 4 ∷ [])) 1000000 Short (1 ∷ 0 ∷ 2 ∷ []) 1 3)
     ∷ tied (3 ∷ 1 ∷ []) (plans two 1000000 All (2 ∷ 1 ∷ []) 0 4)
     ∷ tied (3 ∷ 1 ∷ []) (plans two 2 Spent (1 ∷ 0 ∷ []) 4 2)
     ∷ tied (3 ∷ 1 ∷ []) (quick two (1 ∷ 0 ∷ []) 4)
     ∷ plans two 1000000 All (1 ∷ 2 ∷ []) 0 2
-    ∷ ceilings (oldTable 3 (10 ∷ 10 ∷ []) (2 ∷ 1 ∷ [])) 8
-    ∷ tied (7 ∷ 3 ∷ []) (ceilings (oldTable 3 (10 ∷ 10 ∷ []) (2 ∷ 1 ∷ [])) 16)
+    ∷ ceilings (old_table 3 (10 ∷ 10 ∷ []) (2 ∷ 1 ∷ [])) 8
+    ∷ tied (7 ∷ 3 ∷ []) (ceilings (old_table 3 (10 ∷ 10 ∷ []) (2 ∷ 1 ∷ [])) 16)
     ∷ tied (1 ∷ 3 ∷ 3 ∷ []) (ceilings (loose 1 3 2) 30)
     ∷ tied (1 ∷ 3 ∷ 3 ∷ []) (ceilings (loose 3 1 2) 26)
     ∷ tied (1 ∷ 3 ∷ 3 ∷ 3 ∷ []) (refuses (loose 1 3 2) 1000000 15 0)
     ∷ tied (0 ∷ 3 ∷ []) (refuses (loose 1 3 2) 1000000 15 0)
     ∷ tied (1 ∷ 0 ∷ 4 ∷ []) (refuses (loose 1 3 2) 1000000 15 2)
     ∷ tied (3 ∷ 3 ∷ 4 ∷ []) (refuses (loose 1 3 2) 1000000 15 3)
-    ∷ tied (15 ∷ 16 ∷ []) (refuses (oldTable 4 (1000 ∷ 1001 ∷ []) (1 ∷ 1 ∷ [])) 1000000 15 2)
-    ∷ charged 1 (tied (0 ∷ []) (refuses (oldTable 1 (1000 ∷ 1001 ∷ []) (1 ∷ 1001 ∷ [])) 1000000 14 2))
-    ∷ tied (3 ∷ 1 ∷ 3 ∷ []) (refusesCore (loose 1 3 2) (1 ∷ 2 ∷ 3 ∷ []) 1 9 3)
-    ∷ tied (3 ∷ 1 ∷ 3 ∷ []) (refusesCore (loose 1 3 2) (1 ∷ 2 ∷ 2 ∷ []) 1 16 2)
-    ∷ tied (3 ∷ 1 ∷ 2 ∷ []) (refusesCore (loose 1 3 2) (1 ∷ 0 ∷ 1 ∷ []) 7 16 3)
-    ∷ tied (3 ∷ 1 ∷ 2 ∷ []) (starts (loose 1 3 2) (2 ∷ 0 ∷ 2 ∷ []) 2 (front (slot 10 1 0 0 ∷ emptySlot ∷ slot 10 2 0 0 ∷ [])))
+    ∷ tied (15 ∷ 16 ∷ []) (refuses (old_table 4 (1000 ∷ 1001 ∷ []) (1 ∷ 1 ∷ [])) 1000000 15 2)
+    ∷ charged 1 (tied (0 ∷ []) (refuses (old_table 1 (1000 ∷ 1001 ∷ []) (1 ∷ 1001 ∷ [])) 1000000 14 2))
+    ∷ tied (3 ∷ 1 ∷ 3 ∷ []) (refuses_core (loose 1 3 2) (1 ∷ 2 ∷ 3 ∷ []) 1 9 3)
+    ∷ tied (3 ∷ 1 ∷ 3 ∷ []) (refuses_core (loose 1 3 2) (1 ∷ 2 ∷ 2 ∷ []) 1 16 2)
+    ∷ tied (3 ∷ 1 ∷ 2 ∷ []) (refuses_core (loose 1 3 2) (1 ∷ 0 ∷ 1 ∷ []) 7 16 3)
+    ∷ tied (3 ∷ 1 ∷ 2 ∷ []) (starts (loose 1 3 2) (2 ∷ 0 ∷ 2 ∷ []) 2 (front (slot 10 1 0 0 ∷ empty_slot ∷ slot 10 2 0 0 ∷ [])))
     ∷ []
 
 -- Switch charges. Row a's table, which is full, is short with a charge, and its core is refused. A charge of 1 reorders two tasks, in the exact plan
@@ -321,43 +321,43 @@ ties =
 -- any slot.
 unfoldable pub charges : List Row
 charges =
-    charged 1 (plans rowA 1000000 Short (0 ∷ 1 ∷ []) 4 2)
-    ∷ charged 1 (plans rowA 1 Spent (0 ∷ 0 ∷ []) 12 1)
-    ∷ charged 1 (refusesCore rowA (1 ∷ 1 ∷ []) 1 11 0)
+    charged 1 (plans row_a 1000000 Short (0 ∷ 1 ∷ []) 4 2)
+    ∷ charged 1 (plans row_a 1 Spent (0 ∷ 0 ∷ []) 12 1)
+    ∷ charged 1 (refuses_core row_a (1 ∷ 1 ∷ []) 1 11 0)
     ∷ plans swapped 1000000 All (2 ∷ 1 ∷ []) 0 2
     ∷ charged 1 (plans swapped 1000000 All (1 ∷ 2 ∷ []) 0 2)
     ∷ charged 1 (quick swapped (1 ∷ 2 ∷ []) 0)
-    ∷ charged 9 (plans (oldTable 1 (10 ∷ []) (1 ∷ [])) 1000000 All (1 ∷ []) 0 1)
-    ∷ charged 9 (starts (oldTable 2 (10 ∷ []) (1 ∷ [])) (1 ∷ []) 2 (front []))
-    ∷ charged 9 (ceilings (oldTable 2 (10 ∷ []) (1 ∷ [])) 2)
-    ∷ charged 1 (ticks (oldTable 1 (5 ∷ []) (2 ∷ [])) (1 ∷ []) 1 (replicate 5 (replicate 16 0) ++ replicate 5 (replicate 16 1) ++ replicate 5 full)
+    ∷ charged 9 (plans (old_table 1 (10 ∷ []) (1 ∷ [])) 1000000 All (1 ∷ []) 0 1)
+    ∷ charged 9 (starts (old_table 2 (10 ∷ []) (1 ∷ [])) (1 ∷ []) 2 (front []))
+    ∷ charged 9 (ceilings (old_table 2 (10 ∷ []) (1 ∷ [])) 2)
+    ∷ charged 1 (ticks (old_table 1 (5 ∷ []) (2 ∷ [])) (1 ∷ []) 1 (replicate 5 (replicate 16 0) ++ replicate 5 (replicate 16 1) ++ replicate 5 full)
     (0 ∷ 0 ∷ 0 ∷ 0 ∷ 0 ∷ 1 ∷ 1 ∷ 0 ∷ 0 ∷ 0 ∷ 1 ∷ 1 ∷ 1 ∷ 0 ∷ 0 ∷ []))
-    ∷ charged 2 (tickOnce (front (slot 9 3 0 5 ∷ slot 9 3 4 0 ∷ [])) full 1 1 (front (slot 9 3 8 4 ∷ slot 9 3 3 0 ∷ [])))
+    ∷ charged 2 (tick_once (front (slot 9 3 0 5 ∷ slot 9 3 4 0 ∷ [])) full 1 1 (front (slot 9 3 8 4 ∷ slot 9 3 3 0 ∷ [])))
     ∷ charged 10 (refuses (1 ∷ 1 ∷ []) 1000000 4 0)
-    ∷ charged 10 (refuses (oldTable 1 (0 ∷ []) (1 ∷ [])) 1000000 13 0)
-    ∷ charged 4294967295 (refuses rowA 1000000 13 0)
-    ∷ charged 4 (refuses (oldTable 1 (10 ∷ 10 ∷ []) (7 ∷ 0 ∷ [])) 1000000 6 2)
-    ∷ charged 4 (refuses rowA 1000000 14 2)
-    ∷ charged 1 (refuses (oldTable 1 (1000 ∷ 1001 ∷ []) (1 ∷ 1001 ∷ [])) 1000000 14 2)
-    ∷ charged 10 (refusesTick (front (slot 0 1 0 0 ∷ [])) 0)
-    ∷ charged 9 (refusesTick (front (slot 12 3 0 12 ∷ slot 12 4 0 0 ∷ [])) 2)
+    ∷ charged 10 (refuses (old_table 1 (0 ∷ []) (1 ∷ [])) 1000000 13 0)
+    ∷ charged 4294967295 (refuses row_a 1000000 13 0)
+    ∷ charged 4 (refuses (old_table 1 (10 ∷ 10 ∷ []) (7 ∷ 0 ∷ [])) 1000000 6 2)
+    ∷ charged 4 (refuses row_a 1000000 14 2)
+    ∷ charged 1 (refuses (old_table 1 (1000 ∷ 1001 ∷ []) (1 ∷ 1001 ∷ [])) 1000000 14 2)
+    ∷ charged 10 (refuses_tick (front (slot 0 1 0 0 ∷ [])) 0)
+    ∷ charged 9 (refuses_tick (front (slot 12 3 0 12 ∷ slot 12 4 0 0 ∷ [])) 2)
     ∷ []
 
 -- Empty cores. Five tasks of which no two fit together, on four cores: 5 steps, where 65 are made if each empty core is tried. Seven
 -- tasks on three cores: 24 steps (110), of which the 20th stores a better placement; then one step less, and the steps that are enough.
 -- Step ceilings: of both tables, of the listing, of row d's table, and of sixteen tasks on four cores, which no limit reaches.
-unfoldable pub emptyCores : List Row
-emptyCores =
+unfoldable pub empty_cores : List Row
+empty_cores =
     plans five 1000000 Short (1 ∷ 2 ∷ 3 ∷ 4 ∷ 0 ∷ []) 6 5
     ∷ plans seven 19 Spent (1 ∷ 2 ∷ 3 ∷ 0 ∷ 0 ∷ 3 ∷ 0 ∷ []) 14 19
     ∷ plans seven 20 Spent (1 ∷ 0 ∷ 2 ∷ 3 ∷ 0 ∷ 2 ∷ 3 ∷ []) 13 20
     ∷ plans seven 24 Short (1 ∷ 0 ∷ 2 ∷ 3 ∷ 0 ∷ 2 ∷ 3 ∷ []) 13 24
-    ∷ prints (newTable 4 0 (replicate 5 10) (replicate 5 6) (replicate 5 15)) "table 5 4 10\n1 10 6 1 4 1\n2 10 6 2 4 1\n3 10 6 3 4 1\n4 10 6 4 4 1\n5 10 6 0 4 1\nshort 6 5\n"
+    ∷ prints (new_table 4 0 (replicate 5 10) (replicate 5 6) (replicate 5 15)) "table 5 4 10\n1 10 6 1 4 1\n2 10 6 2 4 1\n3 10 6 3 4 1\n4 10 6 4 4 1\n5 10 6 0 4 1\nshort 6 5\n"
     ∷ ceilings five 752
     ∷ ceilings seven 8192
     ∷ ceilings listing 14
-    ∷ ceilings rowD 242
-    ∷ ceilings (oldTable 4 (replicate 16 10) (replicate 16 1)) 36621093752
+    ∷ ceilings row_d 242
+    ∷ ceilings (old_table 4 (replicate 16 10) (replicate 16 1)) 36621093752
     ∷ []
 
 -- Quick plans. Row d's table, where first fit places all; six tasks that fill two cores, where first fit leaves out the last and the exact
@@ -365,24 +365,24 @@ emptyCores =
 -- the axis loop goes first; and what the programs print: a left-out weight that stands nowhere else in the output, and a refusal.
 unfoldable pub quicks : List Row
 quicks =
-    quick rowD (1 ∷ 1 ∷ 2 ∷ 2 ∷ 2 ∷ []) 0
+    quick row_d (1 ∷ 1 ∷ 2 ∷ 2 ∷ 2 ∷ []) 0
     ∷ quick packed (1 ∷ 1 ∷ 2 ∷ 2 ∷ 2 ∷ 0 ∷ []) 2
     ∷ plans packed 1000000 All (1 ∷ 2 ∷ 1 ∷ 2 ∷ 2 ∷ 1 ∷ []) 0 11
-    ∷ quick (oldTable 1 (10 ∷ 10 ∷ []) (3 ∷ 7 ∷ [])) (1 ∷ 1 ∷ []) 0
+    ∷ quick (old_table 1 (10 ∷ 10 ∷ []) (3 ∷ 7 ∷ [])) (1 ∷ 1 ∷ []) 0
     ∷ quick listing (1 ∷ 0 ∷ 0 ∷ []) 10
-    ∷ quick (oldTable 2 (1000 ∷ 10 ∷ []) (600 ∷ 6 ∷ [])) (2 ∷ 1 ∷ []) 0
-    ∷ printsQuick (newTable 2 0 (replicate 6 10) (5 ∷ 4 ∷ 3 ∷ 3 ∷ 3 ∷ 2 ∷ []) (replicate 6 3)) "table 6 2 10\n1 10 5 1 2 1\n2 10 4 1 2 1\n3 10 3 2 2 1\n4 10 3 2 2 1\n5 10 3 2 2 1\n6 10 2 0 2 1\nquick 2\n"
-    ∷ printsQuick crowded "table 2 1 10\n1 5 2 0 1 1\n2 10 7 1 1 1\nquick 4\n"
+    ∷ quick (old_table 2 (1000 ∷ 10 ∷ []) (600 ∷ 6 ∷ [])) (2 ∷ 1 ∷ []) 0
+    ∷ prints_quick (new_table 2 0 (replicate 6 10) (5 ∷ 4 ∷ 3 ∷ 3 ∷ 3 ∷ 2 ∷ []) (replicate 6 3)) "table 6 2 10\n1 10 5 1 2 1\n2 10 4 1 2 1\n3 10 3 2 2 1\n4 10 3 2 2 1\n5 10 3 2 2 1\n6 10 2 0 2 1\nquick 2\n"
+    ∷ prints_quick crowded "table 2 1 10\n1 5 2 0 1 1\n2 10 7 1 1 1\nquick 4\n"
     ∷ prints crowded "table 2 1 10\n1 5 2 0 1 1\n2 10 7 1 1 1\nshort 4 2\n"
-    ∷ printsQuick (newTable 1 0 (1000 ∷ 1001 ∷ []) (1 ∷ 1 ∷ []) (1 ∷ 1 ∷ [])) "refused 7 2\n"
+    ∷ prints_quick (new_table 1 0 (1000 ∷ 1001 ∷ []) (1 ∷ 1 ∷ []) (1 ∷ 1 ∷ [])) "refused 7 2\n"
     ∷ []
 
 -- four tasks of equal periods in the new form, and five of periods 10, 20, 40, 15 and 60
 abbrev pub alike : List ℕ
-alike = newTable 1 0 (10 ∷ 10 ∷ 10 ∷ 10 ∷ []) (1 ∷ 1 ∷ 1 ∷ 1 ∷ []) (1 ∷ 1 ∷ 1 ∷ 1 ∷ [])
+alike = new_table 1 0 (10 ∷ 10 ∷ 10 ∷ 10 ∷ []) (1 ∷ 1 ∷ 1 ∷ 1 ∷ []) (1 ∷ 1 ∷ 1 ∷ 1 ∷ [])
 
 abbrev pub unlike : List ℕ
-unlike = newTable 1 0 (10 ∷ 20 ∷ 40 ∷ 15 ∷ 60 ∷ []) (1 ∷ 1 ∷ 1 ∷ 1 ∷ 1 ∷ []) (1 ∷ 1 ∷ 1 ∷ 1 ∷ 1 ∷ [])
+unlike = new_table 1 0 (10 ∷ 20 ∷ 40 ∷ 15 ∷ 60 ∷ []) (1 ∷ 1 ∷ 1 ∷ 1 ∷ 1 ∷ []) (1 ∷ 1 ∷ 1 ∷ 1 ∷ 1 ∷ [])
 
 -- Tasks that feed each other. 4 feeds 1 and 3 feeds 2; 3 and 4 feed each other and 1 hangs on their circle; a circle of 1 and 3 behind which 2 feeds
 -- itself; a pair twice, then one that names no task. No pair; the same pair twice; pairs turned round beside each other; a circle of three; two circles.
@@ -391,36 +391,36 @@ unlike = newTable 1 0 (10 ∷ 20 ∷ 40 ∷ 15 ∷ 60 ∷ []) (1 ∷ 1 ∷ 1 ∷
 unfoldable pub feeds : List Row
 feeds =
     orders alike (2 ∷ 4 ∷ 3 ∷ 1 ∷ 2 ∷ []) (3 ∷ 2 ∷ 4 ∷ 1 ∷ [])
-    ∷ refusesList alike (3 ∷ 3 ∷ 4 ∷ 3 ∷ 4 ∷ 3 ∷ 1 ∷ []) 21 3
-    ∷ refusesList alike (3 ∷ 1 ∷ 3 ∷ 2 ∷ 3 ∷ 1 ∷ 2 ∷ []) 20 3
-    ∷ refusesList alike (3 ∷ 1 ∷ 1 ∷ 0 ∷ 2 ∷ 2 ∷ 1 ∷ []) 20 3
+    ∷ refuses_list alike (3 ∷ 3 ∷ 4 ∷ 3 ∷ 4 ∷ 3 ∷ 1 ∷ []) 21 3
+    ∷ refuses_list alike (3 ∷ 1 ∷ 3 ∷ 2 ∷ 3 ∷ 1 ∷ 2 ∷ []) 20 3
+    ∷ refuses_list alike (3 ∷ 1 ∷ 1 ∷ 0 ∷ 2 ∷ 2 ∷ 1 ∷ []) 20 3
     ∷ orders alike (0 ∷ []) (1 ∷ 2 ∷ 3 ∷ 4 ∷ [])
     ∷ orders alike (3 ∷ 4 ∷ 1 ∷ 4 ∷ 1 ∷ 2 ∷ 1 ∷ []) (3 ∷ 4 ∷ 1 ∷ 2 ∷ [])
-    ∷ refusesList alike (2 ∷ 2 ∷ 4 ∷ 4 ∷ 2 ∷ []) 21 2
-    ∷ refusesList alike (3 ∷ 4 ∷ 2 ∷ 3 ∷ 2 ∷ 3 ∷ 4 ∷ []) 21 2
-    ∷ refusesList alike (4 ∷ 3 ∷ 4 ∷ 1 ∷ 2 ∷ 4 ∷ 3 ∷ 2 ∷ 1 ∷ []) 21 1
+    ∷ refuses_list alike (2 ∷ 2 ∷ 4 ∷ 4 ∷ 2 ∷ []) 21 2
+    ∷ refuses_list alike (3 ∷ 4 ∷ 2 ∷ 3 ∷ 2 ∷ 3 ∷ 4 ∷ []) 21 2
+    ∷ refuses_list alike (4 ∷ 3 ∷ 4 ∷ 1 ∷ 2 ∷ 4 ∷ 3 ∷ 2 ∷ 1 ∷ []) 21 1
     ∷ orders unlike (3 ∷ 2 ∷ 3 ∷ 5 ∷ 1 ∷ 2 ∷ 4 ∷ []) (3 ∷ 2 ∷ 1 ∷ 5 ∷ 4 ∷ [])
-    ∷ refusesList unlike (2 ∷ 1 ∷ 3 ∷ 2 ∷ 4 ∷ []) 20 2
-    ∷ refusesList alike (2 ∷ 1 ∷ 5 ∷ 2 ∷ 1 ∷ []) 20 2
-    ∷ refusesList alike (1 ∷ 1 ∷ 5 ∷ []) 20 1
-    ∷ refusesList alike [] 19 0
-    ∷ refusesList alike (1 ∷ 1 ∷ []) 19 0
-    ∷ refusesList alike (1 ∷ 1 ∷ 2 ∷ 0 ∷ []) 19 0
-    ∷ refusesList alike (65 ∷ replicate 65 1 ++ replicate 65 2) 19 0
-    ∷ refusesList (0 ∷ 1 ∷ 1 ∷ 0 ∷ []) [] 4 0
-    ∷ printsOrder (alike ++ (2 ∷ 4 ∷ 3 ∷ 1 ∷ 2 ∷ [])) "3 2 4 1\n"
-    ∷ printsOrder (alike ++ (3 ∷ 3 ∷ 4 ∷ 3 ∷ 4 ∷ 3 ∷ 1 ∷ [])) "refused 21 3\n"
-    ∷ printsOrder alike "refused 19 0\n"
-    ∷ printsOrder (0 ∷ 4 ∷ 1 ∷ 0 ∷ 10 ∷ []) "refused 4 0\n"
+    ∷ refuses_list unlike (2 ∷ 1 ∷ 3 ∷ 2 ∷ 4 ∷ []) 20 2
+    ∷ refuses_list alike (2 ∷ 1 ∷ 5 ∷ 2 ∷ 1 ∷ []) 20 2
+    ∷ refuses_list alike (1 ∷ 1 ∷ 5 ∷ []) 20 1
+    ∷ refuses_list alike [] 19 0
+    ∷ refuses_list alike (1 ∷ 1 ∷ []) 19 0
+    ∷ refuses_list alike (1 ∷ 1 ∷ 2 ∷ 0 ∷ []) 19 0
+    ∷ refuses_list alike (65 ∷ replicate 65 1 ++ replicate 65 2) 19 0
+    ∷ refuses_list (0 ∷ 1 ∷ 1 ∷ 0 ∷ []) [] 4 0
+    ∷ prints_order (alike ++ (2 ∷ 4 ∷ 3 ∷ 1 ∷ 2 ∷ [])) "3 2 4 1\n"
+    ∷ prints_order (alike ++ (3 ∷ 3 ∷ 4 ∷ 3 ∷ 4 ∷ 3 ∷ 1 ∷ [])) "refused 21 3\n"
+    ∷ prints_order alike "refused 19 0\n"
+    ∷ prints_order (0 ∷ 4 ∷ 1 ∷ 0 ∷ 10 ∷ []) "refused 4 0\n"
     ∷ []
 
 -- two tasks in the new form on one core with this charge, of these periods and times
 abbrev pub pair_of : ℕ → List ℕ → List ℕ → List ℕ
-pair_of charge periods times = newTable 1 charge periods times (1 ∷ 1 ∷ [])
+pair_of charge periods times = new_table 1 charge periods times (1 ∷ 1 ∷ [])
 
 -- three tasks for bus drives on two cores, with a charge of 1, of which the second is tied to core 2
 abbrev pub driven : List ℕ
-driven = newTable 2 1 (8 ∷ 20 ∷ 625 ∷ []) (3 ∷ 9 ∷ 250 ∷ []) (3 ∷ 2 ∷ 3 ∷ [])
+driven = new_table 2 1 (8 ∷ 20 ∷ 625 ∷ []) (3 ∷ 9 ∷ 250 ∷ []) (3 ∷ 2 ∷ 3 ∷ [])
 
 -- Tables for bus drives. A period of 0 beside one that is not in the list; one that is not in the list beside a time above its period; the neighbour of a
 -- listed period. Number 22 beside a charge above 9, a time with no room for the charge, an unfit core byte, another length, five cores, a first byte
@@ -429,30 +429,30 @@ driven = newTable 2 1 (8 ∷ 20 ∷ 625 ∷ []) (3 ∷ 9 ∷ 250 ∷ []) (3 ∷ 
 -- tasks with charge and core bytes; what the program prints: the same, and a refusal.
 unfoldable pub drives : List Row
 drives =
-    refusesBus (pair_of 0 (3 ∷ 0 ∷ []) (1 ∷ 1 ∷ [])) 5 2
-    ∷ refusesBus (pair_of 0 (10 ∷ 3 ∷ []) (11 ∷ 1 ∷ [])) 22 2
-    ∷ refusesBus (pair_of 0 (9999 ∷ 10000 ∷ []) (1 ∷ 1 ∷ [])) 22 1
-    ∷ refusesBus (pair_of 10 (10 ∷ 3 ∷ []) (1 ∷ 1 ∷ [])) 13 0
-    ∷ refusesBus (pair_of 9 (10 ∷ 3 ∷ []) (2 ∷ 1 ∷ [])) 22 2
-    ∷ refusesBus (pair_of 9 (10 ∷ 4 ∷ []) (1 ∷ 1 ∷ [])) 14 2
-    ∷ refusesBus (newTable 1 0 (3 ∷ 10 ∷ []) (1 ∷ 1 ∷ []) (0 ∷ 1 ∷ [])) 22 1
-    ∷ refusesBus (newTable 1 0 (4 ∷ 10 ∷ []) (1 ∷ 1 ∷ []) (1 ∷ 2 ∷ [])) 15 2
-    ∷ refusesBus (newTable 1 0 (3 ∷ 10 ∷ []) (1 ∷ 1 ∷ []) (1 ∷ [])) 4 0
-    ∷ refusesBus (newTable 5 0 (3 ∷ []) (1 ∷ []) (1 ∷ [])) 3 0
-    ∷ refusesBus (1 ∷ 1 ∷ 1 ∷ 0 ∷ 3 ∷ 0 ∷ 0 ∷ 0 ∷ 1 ∷ 0 ∷ 0 ∷ 0 ∷ 1 ∷ []) 17 0
-    ∷ refusesBus (0 ∷ 17 ∷ 1 ∷ 0 ∷ []) 2 0
-    ∷ refusesBus (0 ∷ 1 ∷ 1 ∷ []) 1 0
-    ∷ refusesBus (pair_of 0 (10 ∷ 4 ∷ []) (11 ∷ 1 ∷ [])) 6 1
-    ∷ refusesBus (pair_of 0 (1000 ∷ 1001 ∷ []) (1 ∷ 1 ∷ [])) 22 2
-    ∷ refusesBus (pair_of 0 (10000 ∷ 10001 ∷ []) (1 ∷ 1 ∷ [])) 5 2
-    ∷ framesBus (newTable 4 0 (1 ∷ 2 ∷ 4 ∷ 5 ∷ 8 ∷ 10 ∷ 16 ∷ 20 ∷ 25 ∷ 40 ∷ 50 ∷ 80 ∷ 100 ∷ 125 ∷ 200 ∷ 250 ∷ []) (replicate 16 1) (replicate 16 15)) 2000
-    ∷ framesBus (newTable 4 0 (400 ∷ 500 ∷ 625 ∷ 1000 ∷ 1250 ∷ 2000 ∷ 2500 ∷ 5000 ∷ 10000 ∷ []) (replicate 9 1) (replicate 9 15)) 10000
-    ∷ framesBus (pair_of 0 (16 ∷ 625 ∷ []) (1 ∷ 1 ∷ [])) 10000
-    ∷ plansBus newListing 6 Short (0 ∷ 1 ∷ 1 ∷ []) 7 6
-    ∷ plansBus newListing 5 Spent (1 ∷ 0 ∷ 0 ∷ []) 10 5
-    ∷ plansBus driven 1000000 All (1 ∷ 2 ∷ 1 ∷ []) 0 3
-    ∷ printsBus driven "table 3 2 5000\n1 8 3 1 2 1\n2 20 9 2 1 2\n3 625 250 1 2 1\nall 0 3\n"
-    ∷ printsBus (pair_of 0 (10 ∷ 3 ∷ []) (11 ∷ 1 ∷ [])) "refused 22 2\n"
+    refuses_bus (pair_of 0 (3 ∷ 0 ∷ []) (1 ∷ 1 ∷ [])) 5 2
+    ∷ refuses_bus (pair_of 0 (10 ∷ 3 ∷ []) (11 ∷ 1 ∷ [])) 22 2
+    ∷ refuses_bus (pair_of 0 (9999 ∷ 10000 ∷ []) (1 ∷ 1 ∷ [])) 22 1
+    ∷ refuses_bus (pair_of 10 (10 ∷ 3 ∷ []) (1 ∷ 1 ∷ [])) 13 0
+    ∷ refuses_bus (pair_of 9 (10 ∷ 3 ∷ []) (2 ∷ 1 ∷ [])) 22 2
+    ∷ refuses_bus (pair_of 9 (10 ∷ 4 ∷ []) (1 ∷ 1 ∷ [])) 14 2
+    ∷ refuses_bus (new_table 1 0 (3 ∷ 10 ∷ []) (1 ∷ 1 ∷ []) (0 ∷ 1 ∷ [])) 22 1
+    ∷ refuses_bus (new_table 1 0 (4 ∷ 10 ∷ []) (1 ∷ 1 ∷ []) (1 ∷ 2 ∷ [])) 15 2
+    ∷ refuses_bus (new_table 1 0 (3 ∷ 10 ∷ []) (1 ∷ 1 ∷ []) (1 ∷ [])) 4 0
+    ∷ refuses_bus (new_table 5 0 (3 ∷ []) (1 ∷ []) (1 ∷ [])) 3 0
+    ∷ refuses_bus (1 ∷ 1 ∷ 1 ∷ 0 ∷ 3 ∷ 0 ∷ 0 ∷ 0 ∷ 1 ∷ 0 ∷ 0 ∷ 0 ∷ 1 ∷ []) 17 0
+    ∷ refuses_bus (0 ∷ 17 ∷ 1 ∷ 0 ∷ []) 2 0
+    ∷ refuses_bus (0 ∷ 1 ∷ 1 ∷ []) 1 0
+    ∷ refuses_bus (pair_of 0 (10 ∷ 4 ∷ []) (11 ∷ 1 ∷ [])) 6 1
+    ∷ refuses_bus (pair_of 0 (1000 ∷ 1001 ∷ []) (1 ∷ 1 ∷ [])) 22 2
+    ∷ refuses_bus (pair_of 0 (10000 ∷ 10001 ∷ []) (1 ∷ 1 ∷ [])) 5 2
+    ∷ frames_bus (new_table 4 0 (1 ∷ 2 ∷ 4 ∷ 5 ∷ 8 ∷ 10 ∷ 16 ∷ 20 ∷ 25 ∷ 40 ∷ 50 ∷ 80 ∷ 100 ∷ 125 ∷ 200 ∷ 250 ∷ []) (replicate 16 1) (replicate 16 15)) 2000
+    ∷ frames_bus (new_table 4 0 (400 ∷ 500 ∷ 625 ∷ 1000 ∷ 1250 ∷ 2000 ∷ 2500 ∷ 5000 ∷ 10000 ∷ []) (replicate 9 1) (replicate 9 15)) 10000
+    ∷ frames_bus (pair_of 0 (16 ∷ 625 ∷ []) (1 ∷ 1 ∷ [])) 10000
+    ∷ plans_bus new_listing 6 Short (0 ∷ 1 ∷ 1 ∷ []) 7 6
+    ∷ plans_bus new_listing 5 Spent (1 ∷ 0 ∷ 0 ∷ []) 10 5
+    ∷ plans_bus driven 1000000 All (1 ∷ 2 ∷ 1 ∷ []) 0 3
+    ∷ prints_bus driven "table 3 2 5000\n1 8 3 1 2 1\n2 20 9 2 1 2\n3 625 250 1 2 1\nall 0 3\n"
+    ∷ prints_bus (pair_of 0 (10 ∷ 3 ∷ []) (11 ∷ 1 ∷ [])) "refused 22 2\n"
     ∷ []
 
 -- Of two tasks of equal weight the lower number is placed.
@@ -466,24 +466,24 @@ drives =
 -- Slots 2 and 3 are late: the lower is reported, the rest is dropped, and the one that is due sooner runs.
 unfoldable pub more : List Row
 more =
-    plans (oldTable 1 (10 ∷ 10 ∷ []) (6 ∷ 6 ∷ [])) 1000000 Short (1 ∷ 0 ∷ []) 6 2
-    ∷ plans (oldTable 2 (1000 ∷ 10 ∷ []) (600 ∷ 6 ∷ [])) 1000000 All (2 ∷ 1 ∷ []) 0 2
-    ∷ plans (oldTable 2 (10 ∷ 10 ∷ []) (6 ∷ 6 ∷ [])) 1000000 All (1 ∷ 2 ∷ []) 0 2
-    ∷ plans (oldTable 2 (10 ∷ 1000 ∷ []) (5 ∷ 600 ∷ [])) 1000000 All (2 ∷ 1 ∷ []) 0 2
-    ∷ plans (oldTable 2 (10 ∷ 10 ∷ 10 ∷ []) (10 ∷ 10 ∷ 1 ∷ [])) 1000000 Short (1 ∷ 2 ∷ 0 ∷ []) 1 3
-    ∷ plans (oldTable 2 (10 ∷ 10 ∷ 10 ∷ 10 ∷ 10 ∷ []) (5 ∷ 5 ∷ 5 ∷ 5 ∷ 1 ∷ [])) 1000000 Short (1 ∷ 1 ∷ 2 ∷ 2 ∷ 0 ∷ []) 1 5
-    ∷ plans (oldTable 1 (10 ∷ 10 ∷ 10 ∷ 10 ∷ 10 ∷ []) (8 ∷ 6 ∷ 3 ∷ 3 ∷ 3 ∷ [])) 10 Spent (0 ∷ 1 ∷ 1 ∷ 0 ∷ 0 ∷ []) 14 10
-    ∷ ticks (oldTable 1 (3 ∷ []) (2 ∷ [])) (1 ∷ []) 1 (replicate 3 (replicate 16 1)) (1 ∷ 0 ∷ 0 ∷ [])
-    ∷ prints newListing "table 3 1 10\n1 10 7 0 1 1\n2 10 6 1 1 1\n3 10 4 1 1 1\nshort 7 6\n"
-    ∷ prints (newTable 2 0 (replicate 5 10) (5 ∷ 5 ∷ 4 ∷ 3 ∷ 3 ∷ []) (replicate 5 3)) "table 5 2 10\n1 10 5 1 2 1\n2 10 5 1 2 1\n3 10 4 2 2 1\n4 10 3 2 2 1\n5 10 3 2 2 1\nall 0 5\n"
-    ∷ prints (newTable 1 0 (10 ∷ 10 ∷ []) (3 ∷ 8 ∷ []) (1 ∷ 1 ∷ [])) "table 2 1 10\n1 10 3 0 1 1\n2 10 8 1 1 1\nshort 3 2\n"
-    ∷ prints (newTable 1 0 (1000 ∷ 1001 ∷ []) (1 ∷ 1 ∷ []) (1 ∷ 1 ∷ [])) "refused 7 2\n"
-    ∷ prints (newTable 1 0 (10 ∷ []) (11 ∷ []) (1 ∷ [])) "refused 6 1\n"
+    plans (old_table 1 (10 ∷ 10 ∷ []) (6 ∷ 6 ∷ [])) 1000000 Short (1 ∷ 0 ∷ []) 6 2
+    ∷ plans (old_table 2 (1000 ∷ 10 ∷ []) (600 ∷ 6 ∷ [])) 1000000 All (2 ∷ 1 ∷ []) 0 2
+    ∷ plans (old_table 2 (10 ∷ 10 ∷ []) (6 ∷ 6 ∷ [])) 1000000 All (1 ∷ 2 ∷ []) 0 2
+    ∷ plans (old_table 2 (10 ∷ 1000 ∷ []) (5 ∷ 600 ∷ [])) 1000000 All (2 ∷ 1 ∷ []) 0 2
+    ∷ plans (old_table 2 (10 ∷ 10 ∷ 10 ∷ []) (10 ∷ 10 ∷ 1 ∷ [])) 1000000 Short (1 ∷ 2 ∷ 0 ∷ []) 1 3
+    ∷ plans (old_table 2 (10 ∷ 10 ∷ 10 ∷ 10 ∷ 10 ∷ []) (5 ∷ 5 ∷ 5 ∷ 5 ∷ 1 ∷ [])) 1000000 Short (1 ∷ 1 ∷ 2 ∷ 2 ∷ 0 ∷ []) 1 5
+    ∷ plans (old_table 1 (10 ∷ 10 ∷ 10 ∷ 10 ∷ 10 ∷ []) (8 ∷ 6 ∷ 3 ∷ 3 ∷ 3 ∷ [])) 10 Spent (0 ∷ 1 ∷ 1 ∷ 0 ∷ 0 ∷ []) 14 10
+    ∷ ticks (old_table 1 (3 ∷ []) (2 ∷ [])) (1 ∷ []) 1 (replicate 3 (replicate 16 1)) (1 ∷ 0 ∷ 0 ∷ [])
+    ∷ prints new_listing "table 3 1 10\n1 10 7 0 1 1\n2 10 6 1 1 1\n3 10 4 1 1 1\nshort 7 6\n"
+    ∷ prints (new_table 2 0 (replicate 5 10) (5 ∷ 5 ∷ 4 ∷ 3 ∷ 3 ∷ []) (replicate 5 3)) "table 5 2 10\n1 10 5 1 2 1\n2 10 5 1 2 1\n3 10 4 2 2 1\n4 10 3 2 2 1\n5 10 3 2 2 1\nall 0 5\n"
+    ∷ prints (new_table 1 0 (10 ∷ 10 ∷ []) (3 ∷ 8 ∷ []) (1 ∷ 1 ∷ [])) "table 2 1 10\n1 10 3 0 1 1\n2 10 8 1 1 1\nshort 3 2\n"
+    ∷ prints (new_table 1 0 (1000 ∷ 1001 ∷ []) (1 ∷ 1 ∷ []) (1 ∷ 1 ∷ [])) "refused 7 2\n"
+    ∷ prints (new_table 1 0 (10 ∷ []) (11 ∷ []) (1 ∷ [])) "refused 6 1\n"
     ∷ prints (0 ∷ 17 ∷ 1 ∷ 0 ∷ []) "refused 2 0\n"
     ∷ prints [] "refused 1 0\n"
-    ∷ lists newListing (record { verdict = Spent; placement = row 0 3 (entry (1 ∷ 0 ∷ 0 ∷ [])); rejected = 10; steps = 5 })
+    ∷ lists new_listing (record { verdict = Spent; placement = row 0 3 (entry (1 ∷ 0 ∷ 0 ∷ [])); rejected = 10; steps = 5 })
     "table 3 1 10\n1 10 7 1 1 1\n2 10 6 0 1 1\n3 10 4 0 1 1\nspent 10 5\n"
-    ∷ tickOnce (front (slot 8 1 3 0 ∷ slot 10 3 0 2 ∷ slot 5 2 0 1 ∷ [])) (9 ∷ 1 ∷ 9 ∷ replicate 13 0) 3 2
+    ∷ tick_once (front (slot 8 1 3 0 ∷ slot 10 3 0 2 ∷ slot 5 2 0 1 ∷ [])) (9 ∷ 1 ∷ 9 ∷ replicate 13 0) 3 2
     (front (slot 8 1 2 0 ∷ slot 10 3 9 1 ∷ slot 5 2 4 1 ∷ []))
     ∷ []
 
@@ -492,8 +492,8 @@ abbrev pub untouched : List Run
 untouched = run 9 9 9 ∷ run 8 8 8 ∷ run 7 7 7 ∷ run 6 6 6 ∷ []
 
 -- the log of answers 1 1 2 1
-abbrev pub shortLog : List Run
-shortLog = run 1 0 2 ∷ run 2 2 1 ∷ run 1 3 1 ∷ []
+abbrev pub short_log : List Run
+short_log = run 1 0 2 ∷ run 2 2 1 ∷ run 1 3 1 ∷ []
 
 -- The run log. Writing: answers into a row that is longer, and one record too short; no answers; one; an answer above 16 beside a row that is too short;
 -- sixteen and none. Expanding: the same log into its bytes, one byte more and one less; no records. Records that are unfit: a sum beyond 32 bits; tasks of
@@ -501,59 +501,59 @@ shortLog = run 1 0 2 ∷ run 2 2 1 ∷ run 1 3 1 ∷ []
 -- of three, and what stands behind; one of two too few.
 unfoldable pub logs : List Row
 logs =
-    writesLog (1 ∷ 1 ∷ 2 ∷ 1 ∷ []) untouched 0 0 3 (run 1 0 2 ∷ run 2 2 1 ∷ run 1 3 1 ∷ run 6 6 6 ∷ [])
-    ∷ writesLog (1 ∷ 1 ∷ 2 ∷ 1 ∷ []) (run 9 9 9 ∷ run 8 8 8 ∷ []) 24 0 0 (run 9 9 9 ∷ run 8 8 8 ∷ [])
-    ∷ writesLog [] [] 0 0 0 []
-    ∷ writesLog [] untouched 0 0 0 untouched
-    ∷ writesLog (0 ∷ []) (run 9 9 9 ∷ []) 0 0 1 (run 0 0 1 ∷ [])
-    ∷ writesLog (0 ∷ []) [] 24 0 0 []
-    ∷ writesLog (1 ∷ 2 ∷ 17 ∷ 18 ∷ []) [] 23 3 0 []
-    ∷ writesLog (16 ∷ 16 ∷ 0 ∷ []) untouched 0 0 2 (run 16 0 2 ∷ run 0 2 1 ∷ run 7 7 7 ∷ run 6 6 6 ∷ [])
-    ∷ expandsLog shortLog (9 ∷ 9 ∷ 9 ∷ 9 ∷ []) 0 0 4 (1 ∷ 1 ∷ 2 ∷ 1 ∷ [])
-    ∷ expandsLog shortLog (9 ∷ 9 ∷ 9 ∷ 9 ∷ 9 ∷ []) 25 0 0 (9 ∷ 9 ∷ 9 ∷ 9 ∷ 9 ∷ [])
-    ∷ expandsLog shortLog (9 ∷ 9 ∷ 9 ∷ []) 25 0 0 (9 ∷ 9 ∷ 9 ∷ [])
-    ∷ expandsLog [] [] 0 0 0 []
-    ∷ expandsLog [] (9 ∷ []) 25 0 0 (9 ∷ [])
-    ∷ expandsLog (run 1 0 2 ∷ run 2 2 4294967294 ∷ []) [] 25 2 0 []
-    ∷ expandsLog (run 17 0 1 ∷ []) (9 ∷ []) 25 1 0 (9 ∷ [])
-    ∷ expandsLog (run 1 0 1 ∷ run 257 1 1 ∷ []) (9 ∷ 9 ∷ []) 25 2 0 (9 ∷ 9 ∷ [])
-    ∷ expandsLog (run 1 0 1 ∷ run 1 1 1 ∷ []) (9 ∷ 9 ∷ []) 25 2 0 (9 ∷ 9 ∷ [])
-    ∷ expandsLog (run 1 0 0 ∷ []) [] 25 1 0 []
-    ∷ expandsLog (run 1 1 1 ∷ []) (9 ∷ []) 25 1 0 (9 ∷ [])
-    ∷ expandsLog (run 1 0 1 ∷ run 2 2 1 ∷ []) (9 ∷ 9 ∷ []) 25 2 0 (9 ∷ 9 ∷ [])
-    ∷ expandsLog (run 1 0 60001 ∷ []) [] 25 1 0 []
-    ∷ expandsLog (run 1 0 59999 ∷ run 2 59999 1 ∷ run 3 60000 1 ∷ []) [] 25 3 0 []
-    ∷ expandsLog (run 1 0 60000 ∷ []) [] 25 0 0 []
-    ∷ writesWords (1 ∷ 1 ∷ 2 ∷ []) (9 ∷ 9 ∷ 9 ∷ 9 ∷ 9 ∷ 9 ∷ 8 ∷ 8 ∷ 8 ∷ 7 ∷ 7 ∷ []) (1 ∷ 0 ∷ 2 ∷ 2 ∷ 2 ∷ 1 ∷ 8 ∷ 8 ∷ 8 ∷ 7 ∷ 7 ∷ [])
-    ∷ writesWords (1 ∷ 1 ∷ 2 ∷ []) (9 ∷ 9 ∷ 9 ∷ 9 ∷ 9 ∷ []) (9 ∷ 9 ∷ 9 ∷ 9 ∷ 9 ∷ [])
+    writes_log (1 ∷ 1 ∷ 2 ∷ 1 ∷ []) untouched 0 0 3 (run 1 0 2 ∷ run 2 2 1 ∷ run 1 3 1 ∷ run 6 6 6 ∷ [])
+    ∷ writes_log (1 ∷ 1 ∷ 2 ∷ 1 ∷ []) (run 9 9 9 ∷ run 8 8 8 ∷ []) 24 0 0 (run 9 9 9 ∷ run 8 8 8 ∷ [])
+    ∷ writes_log [] [] 0 0 0 []
+    ∷ writes_log [] untouched 0 0 0 untouched
+    ∷ writes_log (0 ∷ []) (run 9 9 9 ∷ []) 0 0 1 (run 0 0 1 ∷ [])
+    ∷ writes_log (0 ∷ []) [] 24 0 0 []
+    ∷ writes_log (1 ∷ 2 ∷ 17 ∷ 18 ∷ []) [] 23 3 0 []
+    ∷ writes_log (16 ∷ 16 ∷ 0 ∷ []) untouched 0 0 2 (run 16 0 2 ∷ run 0 2 1 ∷ run 7 7 7 ∷ run 6 6 6 ∷ [])
+    ∷ expands_log short_log (9 ∷ 9 ∷ 9 ∷ 9 ∷ []) 0 0 4 (1 ∷ 1 ∷ 2 ∷ 1 ∷ [])
+    ∷ expands_log short_log (9 ∷ 9 ∷ 9 ∷ 9 ∷ 9 ∷ []) 25 0 0 (9 ∷ 9 ∷ 9 ∷ 9 ∷ 9 ∷ [])
+    ∷ expands_log short_log (9 ∷ 9 ∷ 9 ∷ []) 25 0 0 (9 ∷ 9 ∷ 9 ∷ [])
+    ∷ expands_log [] [] 0 0 0 []
+    ∷ expands_log [] (9 ∷ []) 25 0 0 (9 ∷ [])
+    ∷ expands_log (run 1 0 2 ∷ run 2 2 4294967294 ∷ []) [] 25 2 0 []
+    ∷ expands_log (run 17 0 1 ∷ []) (9 ∷ []) 25 1 0 (9 ∷ [])
+    ∷ expands_log (run 1 0 1 ∷ run 257 1 1 ∷ []) (9 ∷ 9 ∷ []) 25 2 0 (9 ∷ 9 ∷ [])
+    ∷ expands_log (run 1 0 1 ∷ run 1 1 1 ∷ []) (9 ∷ 9 ∷ []) 25 2 0 (9 ∷ 9 ∷ [])
+    ∷ expands_log (run 1 0 0 ∷ []) [] 25 1 0 []
+    ∷ expands_log (run 1 1 1 ∷ []) (9 ∷ []) 25 1 0 (9 ∷ [])
+    ∷ expands_log (run 1 0 1 ∷ run 2 2 1 ∷ []) (9 ∷ 9 ∷ []) 25 2 0 (9 ∷ 9 ∷ [])
+    ∷ expands_log (run 1 0 60001 ∷ []) [] 25 1 0 []
+    ∷ expands_log (run 1 0 59999 ∷ run 2 59999 1 ∷ run 3 60000 1 ∷ []) [] 25 3 0 []
+    ∷ expands_log (run 1 0 60000 ∷ []) [] 25 0 0 []
+    ∷ writes_words (1 ∷ 1 ∷ 2 ∷ []) (9 ∷ 9 ∷ 9 ∷ 9 ∷ 9 ∷ 9 ∷ 8 ∷ 8 ∷ 8 ∷ 7 ∷ 7 ∷ []) (1 ∷ 0 ∷ 2 ∷ 2 ∷ 2 ∷ 1 ∷ 8 ∷ 8 ∷ 8 ∷ 7 ∷ 7 ∷ [])
+    ∷ writes_words (1 ∷ 1 ∷ 2 ∷ []) (9 ∷ 9 ∷ 9 ∷ 9 ∷ 9 ∷ []) (9 ∷ 9 ∷ 9 ∷ 9 ∷ 9 ∷ [])
     ∷ []
 
 -- rows a to i and k; where the paper gives no limit it is 1,000,000
 unfoldable pub rows : List Row
 rows =
-    plans rowA 1000000 All (1 ∷ 1 ∷ []) 0 2
-    ∷ plans (oldTable 1 (10 ∷ 10 ∷ []) (3 ∷ 8 ∷ [])) 1000000 Short (0 ∷ 1 ∷ []) 3 2
-    ∷ frames rowC 6
-    ∷ plans rowC 1000000 All (1 ∷ 1 ∷ 1 ∷ []) 0 3
-    ∷ plans rowD 1000000 All (1 ∷ 1 ∷ 2 ∷ 2 ∷ 2 ∷ []) 0 5
+    plans row_a 1000000 All (1 ∷ 1 ∷ []) 0 2
+    ∷ plans (old_table 1 (10 ∷ 10 ∷ []) (3 ∷ 8 ∷ [])) 1000000 Short (0 ∷ 1 ∷ []) 3 2
+    ∷ frames row_c 6
+    ∷ plans row_c 1000000 All (1 ∷ 1 ∷ 1 ∷ []) 0 3
+    ∷ plans row_d 1000000 All (1 ∷ 1 ∷ 2 ∷ 2 ∷ 2 ∷ []) 0 5
     ∷ plans listing 6 Short (0 ∷ 1 ∷ 1 ∷ []) 7 6
     ∷ plans listing 5 Spent (1 ∷ 0 ∷ 0 ∷ []) 10 5
     ∷ plans listing 0 Spent (0 ∷ 0 ∷ 0 ∷ []) 17 0
-    ∷ ticks rowC (1 ∷ 1 ∷ 1 ∷ []) 1 (replicate 6 full) (1 ∷ 2 ∷ 1 ∷ 2 ∷ 1 ∷ 3 ∷ [])
-    ∷ ticks rowC (1 ∷ 1 ∷ 1 ∷ []) 1 (full ∷ full ∷ firstSilent ∷ full ∷ full ∷ full ∷ []) (1 ∷ 2 ∷ 3 ∷ 2 ∷ 1 ∷ 0 ∷ [])
-    ∷ refuses (oldTable 1 (1000 ∷ 1001 ∷ []) (1 ∷ 1 ∷ [])) 1000000 7 2
+    ∷ ticks row_c (1 ∷ 1 ∷ 1 ∷ []) 1 (replicate 6 full) (1 ∷ 2 ∷ 1 ∷ 2 ∷ 1 ∷ 3 ∷ [])
+    ∷ ticks row_c (1 ∷ 1 ∷ 1 ∷ []) 1 (full ∷ full ∷ first_silent ∷ full ∷ full ∷ full ∷ []) (1 ∷ 2 ∷ 3 ∷ 2 ∷ 1 ∷ 0 ∷ [])
+    ∷ refuses (old_table 1 (1000 ∷ 1001 ∷ []) (1 ∷ 1 ∷ [])) 1000000 7 2
     ∷ []
 
 -- Every row of every list.
 pub record WorkedRows : Type 0 where
   pub base : AllHold rows
-  pub more-of-it : AllHold more
-  pub quick-plans : AllHold quicks
-  pub empty-cores : AllHold emptyCores
-  pub switch-charges : AllHold charges
-  pub core-bytes : AllHold ties
-  pub new-form : AllHold newTables
-  pub moved-tables : AllHold moves
+  pub more_of_it : AllHold more
+  pub quick_plans : AllHold quicks
+  pub empty_cores_fact : AllHold empty_cores
+  pub switch_charges : AllHold charges
+  pub core_bytes : AllHold ties
+  pub new_form : AllHold new_tables
+  pub moved_tables : AllHold moves
   pub feeding-tasks : AllHold feeds
   pub bus-drives : AllHold drives
   pub run-logs : AllHold logs

@@ -1,7 +1,7 @@
 // The least common multiple of the periods, and its test.
 ghost use Rattle.std.specs.Prelude.{◌≡◌, ◌≤◌};
-ghost use Rattle.fields.specs.Tests.{hyperperiodTest};
-ghost use Rattle.hyperperiod.specs.Multiple.{multipleOf};
+ghost use Rattle.fields.specs.Tests.{hyperperiod_test};
+ghost use Rattle.hyperperiod.specs.Multiple.{multiple_of};
 
 use fields::Fields;
 use refusal::{Cause, Outcome};
@@ -16,7 +16,7 @@ pub struct Multiple {
 // The least common multiple of the periods, task by task until it exceeds 1,000,000.
 pub fn common_multiple(f: Fields) -> Multiple
     requires { f.n ≤ 16 }
-    ensures { result ≡ multipleOf f }
+    ensures { result ≡ multiple_of f }
 {
     let mut h: u32 = 1;
     let mut k = 0;
@@ -40,7 +40,7 @@ pub fn common_multiple(f: Fields) -> Multiple
 // Number 7.
 pub fn hyperperiod_test(f: Fields) -> Outcome
     requires { f.n ≤ 16 }
-    ensures { result ≡ hyperperiodTest f }
+    ensures { result ≡ hyperperiod_test f }
 {
     let task = common_multiple(f).exceeded;
     refusal::refuse_if(task != 0, Cause::Hyperperiod(task))

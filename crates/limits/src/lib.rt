@@ -1,8 +1,8 @@
 // The tests of the limits over all tasks of a table, joined in their order.
 ghost use Rattle.std.specs.Prelude.{◌≡◌, ◌≤◌};
 ghost use Rattle.numbers.specs.First.{first};
-ghost use Rattle.refusal.specs.Tests.{inOrder};
-ghost use Rattle.fields.specs.Tests.{badPeriod, badBudget, badCost, badAffinity, periodsTest, budgetsTest, costsTest, affinityTest, limitTests};
+ghost use Rattle.refusal.specs.Tests.{in_order};
+ghost use Rattle.fields.specs.Tests.{bad_period, bad_budget, bad_cost, bad_affinity, periods_test, budgets_test, costs_test, affinity_test, limit_tests};
 ghost use Rattle.fields.specs.Limits.{Sized};
 
 use fields::Fields;
@@ -11,7 +11,7 @@ use refusal::{Cause, Outcome};
 // The first task, from 1, with a bad period; 0 if there is none.
 fn first_bad_period(f: Fields) -> usize
     requires { f.n ≤ 16 }
-    ensures { result ≡ first (badPeriod f) f.n }
+    ensures { result ≡ first (bad_period f) f.n }
 {
     let mut k = 0;
     while k < f.n {
@@ -26,7 +26,7 @@ fn first_bad_period(f: Fields) -> usize
 // The first task, from 1, with a bad budget; 0 if there is none.
 fn first_bad_budget(f: Fields) -> usize
     requires { f.n ≤ 16 }
-    ensures { result ≡ first (badBudget f) f.n }
+    ensures { result ≡ first (bad_budget f) f.n }
 {
     let mut k = 0;
     while k < f.n {
@@ -41,7 +41,7 @@ fn first_bad_budget(f: Fields) -> usize
 // The first task, from 1, whose budget with the charge is above its period; 0 if there is none.
 fn first_bad_cost(f: Fields) -> usize
     requires { f.n ≤ 16 }
-    ensures { result ≡ first (badCost f) f.n }
+    ensures { result ≡ first (bad_cost f) f.n }
 {
     let mut k = 0;
     while k < f.n {
@@ -56,7 +56,7 @@ fn first_bad_cost(f: Fields) -> usize
 // The first task, from 1, whose core byte is 0 or has a bit above core m; 0 if there is none.
 fn first_bad_affinity(f: Fields) -> usize
     requires { Sized f }
-    ensures { result ≡ first (badAffinity f) f.n }
+    ensures { result ≡ first (bad_affinity f) f.n }
 {
     let mut k = 0;
     while k < f.n {
@@ -71,7 +71,7 @@ fn first_bad_affinity(f: Fields) -> usize
 // Number 5.
 pub fn periods_test(f: Fields) -> Outcome
     requires { f.n ≤ 16 }
-    ensures { result ≡ periodsTest f }
+    ensures { result ≡ periods_test f }
 {
     let task = first_bad_period(f);
     refusal::refuse_if(task != 0, Cause::Period(task))
@@ -80,7 +80,7 @@ pub fn periods_test(f: Fields) -> Outcome
 // Number 6.
 fn budgets_test(f: Fields) -> Outcome
     requires { f.n ≤ 16 }
-    ensures { result ≡ budgetsTest f }
+    ensures { result ≡ budgets_test f }
 {
     let task = first_bad_budget(f);
     refusal::refuse_if(task != 0, Cause::Budget(task))
@@ -89,7 +89,7 @@ fn budgets_test(f: Fields) -> Outcome
 // Number 14.
 fn costs_test(f: Fields) -> Outcome
     requires { f.n ≤ 16 }
-    ensures { result ≡ costsTest f }
+    ensures { result ≡ costs_test f }
 {
     let task = first_bad_cost(f);
     refusal::refuse_if(task != 0, Cause::Cost(task))
@@ -98,7 +98,7 @@ fn costs_test(f: Fields) -> Outcome
 // or a byte is 0 or has a bit above core m.
 fn affinity_test(f: Fields) -> Outcome
     requires { Sized f }
-    ensures { result ≡ affinityTest f }
+    ensures { result ≡ affinity_test f }
 {
     let task = first_bad_affinity(f);
     refusal::refuse_if(task != 0, Cause::Affinity(task))
@@ -107,7 +107,7 @@ fn affinity_test(f: Fields) -> Outcome
 // Number 13, then 5, 6, 14, 15 and 7.
 pub fn limit_tests(f: Fields) -> Outcome
     requires { Sized f }
-    ensures { result ≡ inOrder (limitTests f) }
+    ensures { result ≡ in_order (limit_tests f) }
 {
     let charge = fields::charge_test(f);
     let periods = periods_test(f);

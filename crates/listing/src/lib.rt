@@ -1,10 +1,10 @@
 // The lines that the outputs of programs share: a table with the cores of its tasks, and a refusal.
 ghost use Rattle.std.specs.Prelude.{◌≡◌, ◌≤◌, []};
-ghost use Rattle.affinity.specs.Permitted.{permittedCount, lowestPermitted};
+ghost use Rattle.affinity.specs.Permitted.{permitted_count, lowest_permitted};
 ghost use Rattle.refusal.specs.Causes.{number_of, place_of};
 ghost use Rattle.text.specs.Shown.{shown, Appended};
 ghost use Rattle.listing.specs.Printed.{printed};
-ghost use Rattle.listing.specs.Lines.{refusalLine, sizesLine, taskLine, taskLines, tableLines};
+ghost use Rattle.listing.specs.Lines.{refusal_line, sizes_line, task_line, task_lines, table_lines};
 
 use fields::Fields;
 use refusal::{Cause, Outcome};
@@ -13,7 +13,7 @@ use text::Text;
 
 // A refusal: number and place.
 fn append_refusal(t: Text, cause: Cause) -> Text
-    ensures { Appended t (refusalLine (number_of cause) (place_of cause)) 50 result }
+    ensures { Appended t (refusal_line (number_of cause) (place_of cause)) 50 result }
 {
     let number = numbering::number(cause) as u64;
     let place = numbering::place(cause) as u64;
@@ -24,7 +24,7 @@ fn append_refusal(t: Text, cause: Cause) -> Text
 
 // First line: n, m and the hyperperiod.
 fn append_sizes(text: Text, t: TaskSet) -> Text
-    ensures { Appended text (sizesLine t) 69 result }
+    ensures { Appended text (sizes_line t) 69 result }
 {
     let word = text::append_bytes(text, b"table");
     let n = decimal::append_field(word, t.fields.n as u64);
@@ -35,7 +35,7 @@ fn append_sizes(text: Text, t: TaskSet) -> Text
 
 // A task's line: its number, period, budget and core, how many cores its core byte permits, and the lowest of them.
 fn append_task(t: Text, task: usize, period: u32, budget: u32, core: u8, byte: u8) -> Text
-    ensures { Appended t (taskLine task period budget core (permittedCount byte 8) (lowestPermitted byte 8)) 126 result }
+    ensures { Appended t (task_line task period budget core (permitted_count byte 8) (lowest_permitted byte 8)) 126 result }
 {
     let number = decimal::append_decimal(t, task as u64);
     let p = decimal::append_field(number, period as u64);
@@ -49,7 +49,7 @@ fn append_task(t: Text, task: usize, period: u32, budget: u32, core: u8, byte: u
 // A line for each task.
 fn append_tasks(t: Text, f: Fields, cores: [u8; 16]) -> Text
     requires { f.n ≤ 16 }
-    ensures { Appended t (taskLines f cores f.n) 2016 result }
+    ensures { Appended t (task_lines f cores f.n) 2016 result }
 {
     let mut longer = t;
     let mut k = 0;
@@ -71,7 +71,7 @@ fn append_tasks(t: Text, f: Fields, cores: [u8; 16]) -> Text
 // The lines of a table and the cores of its tasks.
 pub fn append_table(text: Text, t: TaskSet, cores: [u8; 16]) -> Text
     requires { t.fields.n ≤ 16 }
-    ensures { Appended text (tableLines t cores) 2085 result }
+    ensures { Appended text (table_lines t cores) 2085 result }
 {
     let sizes = append_sizes(text, t);
     let fields = t.fields;

@@ -1,8 +1,8 @@
 // The load of a core by a placement, and its test, for a checked task set.
 ghost use Rattle.std.specs.Prelude.{◌≡◌, cond};
-ghost use Rattle.taskset.specs.Demands.{loadOn};
+ghost use Rattle.taskset.specs.Demands.{load_on};
 ghost use Rattle.taskset.specs.Promise.{Checked};
-ghost use Rattle.loads.specs.Test.{loadTest};
+ghost use Rattle.loads.specs.Test.{load_test};
 
 use refusal::{Cause, Outcome};
 use taskset::TaskSet;
@@ -17,7 +17,7 @@ fn share(demand: u32, on: bool) -> u32
 // The load of a core: the sum of the demands of the tasks that are on it.
 fn load_on(t: TaskSet, placement: &[u8], core: u8) -> u32
     requires { Checked t }
-    ensures { result ≡ loadOn t.fields placement.now core }
+    ensures { result ≡ load_on t.fields placement.now core }
 {
     let mut sum: u32 = 0;
     let mut k: usize = 0;
@@ -31,7 +31,7 @@ fn load_on(t: TaskSet, placement: &[u8], core: u8) -> u32
 // Number 11.
 pub fn load_test(t: TaskSet, placement: &[u8], core: u8) -> Outcome
     requires { Checked t }
-    ensures { result ≡ loadTest t.fields placement.now core }
+    ensures { result ≡ load_test t.fields placement.now core }
 {
     let load = load_on(t, placement, core);
     refusal::refuse_if(t.hyperperiod < load, Cause::Overload)

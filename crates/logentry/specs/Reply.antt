@@ -6,8 +6,8 @@ use Rattle.runs.specs.declared.Logged.{Logged}
 use Rattle.logentry.specs.declared.Reply.{Reply}
 
 -- the paper's number and place, 0 and 0 if there is no refusal, and the count
-unfoldable pub replyOf : Logged → Reply
-replyOf answer = record { number = number_in answer.outcome; place = place_in answer.outcome; count = answer.count }
+unfoldable pub reply_of : Logged → Reply
+reply_of answer = record { number = number_in answer.outcome; place = place_in answer.outcome; count = answer.count }
 
 -- number and place are 0 and 0 exactly if the call is valid, and else those of the first condition that holds
 pub record Replies (Valid : Type 0) (conditions : List Condition) (reply : Reply) : Type 0 where

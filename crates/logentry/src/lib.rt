@@ -1,13 +1,13 @@
 // The two entries by which C writes and expands a run log.
 ghost use Rattle.std.specs.Prelude.{◌≡◌, ◌≤◌, length};
 ghost use Rattle.refusal.specs.Causes.{place_in};
-ghost use Rattle.recording.specs.Tests.{writeAnswer, logAfter};
-ghost use Rattle.recording.specs.Limits.{Writable, writeConditions};
+ghost use Rattle.recording.specs.Tests.{write_answer, log_after};
+ghost use Rattle.recording.specs.Limits.{Writable, write_conditions};
 ghost use Rattle.recording.specs.Promise.{Writes};
-ghost use Rattle.replay.specs.Tests.{expandAnswer, rowAfter};
-ghost use Rattle.replay.specs.Limits.{Expandable, expandConditions};
+ghost use Rattle.replay.specs.Tests.{expand_answer, row_after};
+ghost use Rattle.replay.specs.Limits.{Expandable, expand_conditions};
 ghost use Rattle.replay.specs.Promise.{Expands};
-ghost use Rattle.logentry.specs.Reply.{replyOf, Replies};
+ghost use Rattle.logentry.specs.Reply.{reply_of, Replies};
 
 use refusal::Outcome;
 use runs::{Logged, Run};
@@ -24,7 +24,7 @@ pub struct Reply {
 // The answer of a call on a log, in numbers.
 fn in_numbers(answer: Logged) -> Reply
     requires { (place_in answer.outcome ≤ 60001) × (answer.count ≤ 60000) }
-    ensures { result ≡ replyOf answer }
+    ensures { result ≡ reply_of answer }
 {
     let outcome = answer.outcome;
     match outcome {
@@ -44,9 +44,9 @@ fn in_numbers(answer: Logged) -> Reply
 // Writes the log of the answers to the front of `runs`.
 #[unsafe(no_mangle)]
 pub extern "C" fn millplan_log_write(answers: &[u8], runs: &mut [Run]) -> Reply
-    ensures reply { result ≡ replyOf (writeAnswer answers.now (length runs.old)) }
-    ensures runs { runs.new ≡ logAfter answers.now runs.old }
-    ensures decides { Replies (Writable answers.now (length runs.old)) (writeConditions answers.now (length runs.old)) result }
+    ensures reply { result ≡ reply_of (write_answer answers.now (length runs.old)) }
+    ensures runs { runs.new ≡ log_after answers.now runs.old }
+    ensures decides { Replies (Writable answers.now (length runs.old)) (write_conditions answers.now (length runs.old)) result }
     ensures writes { Writes answers.now runs.old result.number result.count runs.new }
 {
     let answer = runlog::write_log(answers, runs);
@@ -56,9 +56,9 @@ pub extern "C" fn millplan_log_write(answers: &[u8], runs: &mut [Run]) -> Reply
 // Fills `answers` from the records.
 #[unsafe(no_mangle)]
 pub extern "C" fn millplan_log_expand(runs: &[Run], answers: &mut [u8]) -> Reply
-    ensures reply { result ≡ replyOf (expandAnswer runs.now (length answers.old)) }
-    ensures answers { answers.new ≡ rowAfter runs.now answers.old }
-    ensures decides { Replies (Expandable runs.now (length answers.old)) (expandConditions runs.now (length answers.old)) result }
+    ensures reply { result ≡ reply_of (expand_answer runs.now (length answers.old)) }
+    ensures answers { answers.new ≡ row_after runs.now answers.old }
+    ensures decides { Replies (Expandable runs.now (length answers.old)) (expand_conditions runs.now (length answers.old)) result }
     ensures expands { Expands runs.now answers.old result.number result.count answers.new }
 {
     let answer = runlog::expand_log(runs, answers);

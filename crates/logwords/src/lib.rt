@@ -3,20 +3,20 @@ ghost use Rattle.std.specs.Prelude.{◌≡◌, ◌<◌, ◌≤◌, length, take}
 ghost use Rattle.refusal.specs.Causes.{number_in};
 ghost use Rattle.refusal.specs.Conditions.{Decides};
 ghost use Rattle.runs.specs.Log.{run_at};
-ghost use Rattle.recording.specs.Tests.{writeAnswer};
-ghost use Rattle.recording.specs.Limits.{Writable, writeConditions};
+ghost use Rattle.recording.specs.Tests.{write_answer};
+ghost use Rattle.recording.specs.Limits.{Writable, write_conditions};
 ghost use Rattle.recording.specs.Promise.{Writes};
-ghost use Rattle.replay.specs.Tests.{auditStart, auditOf, expandAnswer, rowAfter, paintedAll};
-ghost use Rattle.replay.specs.Limits.{Expandable, expandConditions};
+ghost use Rattle.replay.specs.Tests.{audit_start, audit_of, expand_answer, row_after, painted_all};
+ghost use Rattle.replay.specs.Limits.{Expandable, expand_conditions};
 ghost use Rattle.replay.specs.Promise.{Expands};
-ghost use Rattle.logwords.specs.Words.{recordsIn, stored, wordsAfter};
+ghost use Rattle.logwords.specs.Words.{records_in, stored, words_after};
 
 use replay::Audit;
 use runs::{Logged, Run};
 
 // Stores record `k`, counted from 0.
 pub fn put_run(words: &mut [u32], k: usize, r: Run)
-    requires { k < length (recordsIn words.old) }
+    requires { k < length (records_in words.old) }
     ensures { words.new ≡ stored words.old k r }
 {
     let at = 3 * k;
@@ -27,10 +27,10 @@ pub fn put_run(words: &mut [u32], k: usize, r: Run)
 
 // Writes the log of the answers to the front of the row.
 pub fn write_words(answers: &[u8], words: &mut [u32]) -> Logged
-    ensures answer { result ≡ writeAnswer answers.now (length (recordsIn words.old)) }
-    ensures words { words.new ≡ wordsAfter answers.now words.old }
-    ensures decides { Decides (Writable answers.now (length (recordsIn words.old))) (writeConditions answers.now (length (recordsIn words.old))) result.outcome }
-    ensures writes { Writes answers.now (recordsIn words.old) (number_in result.outcome) result.count (recordsIn words.new) }
+    ensures answer { result ≡ write_answer answers.now (length (records_in words.old)) }
+    ensures words { words.new ≡ words_after answers.now words.old }
+    ensures decides { Decides (Writable answers.now (length (records_in words.old))) (write_conditions answers.now (length (records_in words.old))) result.outcome }
+    ensures writes { Writes answers.now (records_in words.old) (number_in result.outcome) result.count (records_in words.new) }
 {
     let answer = recording::write_answer(answers, words.len() / 3);
     let mut at: usize = 0;
@@ -46,8 +46,8 @@ pub fn write_words(answers: &[u8], words: &mut [u32]) -> Logged
 
 // Record `k`, counted from 0.
 fn run_in(words: &[u32], k: usize) -> Run
-    requires { k < length (recordsIn words.now) }
-    ensures { result ≡ run_at (recordsIn words.now) k }
+    requires { k < length (records_in words.now) }
+    ensures { result ≡ run_at (records_in words.now) k }
 {
     let at = 3 * k;
     Run {
@@ -59,7 +59,7 @@ fn run_in(words: &[u32], k: usize) -> Run
 
 // Looks at every record, in order.
 fn audit_words(words: &[u32]) -> Audit
-    ensures { result ≡ auditOf auditStart (recordsIn words.now) }
+    ensures { result ≡ audit_of audit_start (records_in words.now) }
 {
     let n = words.len() / 3;
     let mut a = replay::audit_start();
@@ -73,8 +73,8 @@ fn audit_words(words: &[u32]) -> Audit
 
 // Fills in the ticks of the first `n` records, in order.
 fn paint_words(words: &[u32], row: &mut [u8], n: usize)
-    requires { n ≤ length (recordsIn words.now) }
-    ensures { row.new ≡ paintedAll (take n (recordsIn words.now)) row.old }
+    requires { n ≤ length (records_in words.now) }
+    ensures { row.new ≡ painted_all (take n (records_in words.now)) row.old }
 {
     let mut k: usize = 0;
     while k < n {
@@ -85,10 +85,10 @@ fn paint_words(words: &[u32], row: &mut [u8], n: usize)
 
 // Fills a lent row of bytes with the answers of the records.
 pub fn expand_words(words: &[u32], bytes: &mut [u8]) -> Logged
-    ensures answer { result ≡ expandAnswer (recordsIn words.now) (length bytes.old) }
-    ensures bytes { bytes.new ≡ rowAfter (recordsIn words.now) bytes.old }
-    ensures decides { Decides (Expandable (recordsIn words.now) (length bytes.old)) (expandConditions (recordsIn words.now) (length bytes.old)) result.outcome }
-    ensures expands { Expands (recordsIn words.now) bytes.old (number_in result.outcome) result.count bytes.new }
+    ensures answer { result ≡ expand_answer (records_in words.now) (length bytes.old) }
+    ensures bytes { bytes.new ≡ row_after (records_in words.now) bytes.old }
+    ensures decides { Decides (Expandable (records_in words.now) (length bytes.old)) (expand_conditions (records_in words.now) (length bytes.old)) result.outcome }
+    ensures expands { Expands (records_in words.now) bytes.old (number_in result.outcome) result.count bytes.new }
 {
     let a = audit_words(words);
     let answer = replay::expand_answer(a, bytes.len());

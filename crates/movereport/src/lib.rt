@@ -1,11 +1,11 @@
 // What the programs `tonew` and `toold` write for the bytes of a table: the moved table, or the refusal beside it.
 ghost use Rattle.std.specs.Prelude.{[], ◌≤◌, length};
 ghost use Rattle.listing.specs.Printed.{printed};
-ghost use Rattle.oldform.specs.Form.{oldBytes};
+ghost use Rattle.oldform.specs.Form.{old_bytes};
 ghost use Rattle.oldform.specs.Limits.{alone};
-ghost use Rattle.newform.specs.Form.{newBytes};
+ghost use Rattle.newform.specs.Form.{new_bytes};
 ghost use Rattle.transfer.specs.Tables.{returned};
-ghost use Rattle.storing.specs.Promise.{storedIn};
+ghost use Rattle.storing.specs.Promise.{stored_in};
 ghost use Rattle.movereport.specs.Output.{Shows, MoveOutput};
 ghost use Rattle.movereport.specs.Reported.{MoveReported};
 
@@ -22,7 +22,7 @@ pub struct Moved {
 // The texts for a move's answer and the output that it was lent.
 fn texts(answer: Transfer, out: &[u8]) -> Moved
     requires { (answer.length ≤ length out.now) × (answer.length ≤ 2560) }
-    ensures { Shows (storedIn answer out.now) (printed answer.outcome []) result }
+    ensures { Shows (stored_in answer out.now) (printed answer.outcome []) result }
 {
     let nothing = text::empty();
     let length = answer.length;
@@ -37,8 +37,8 @@ fn texts(answer: Transfer, out: &[u8]) -> Moved
 
 // The output of `tonew` for the bytes of a table in the old form. A table in the new form has at most 148 bytes.
 pub fn to_new(table: &[u8]) -> Moved
-    ensures answer { MoveOutput newBytes (alone table.now) result }
-    ensures reported { MoveReported newBytes (alone table.now) result }
+    ensures answer { MoveOutput new_bytes (alone table.now) result }
+    ensures reported { MoveReported new_bytes (alone table.now) result }
 {
     let mut out = [0u8; 148];
     let answer = transfer::to_new(table, &mut out);
@@ -47,8 +47,8 @@ pub fn to_new(table: &[u8]) -> Moved
 
 // The output of `toold` for the bytes of a table in the new form. A table in the old form has at most 130 bytes.
 pub fn to_old(table: &[u8]) -> Moved
-    ensures answer { MoveOutput oldBytes (returned table.now) result }
-    ensures reported { MoveReported oldBytes (returned table.now) result }
+    ensures answer { MoveOutput old_bytes (returned table.now) result }
+    ensures reported { MoveReported old_bytes (returned table.now) result }
 {
     let mut out = [0u8; 130];
     let answer = transfer::to_old(table, &mut out);

@@ -1,10 +1,10 @@
 // Whole products, the greatest common divisor and the least common multiple.
 ghost use Rattle.std.specs.Prelude.{◌≡◌, ◌*◌};
-ghost use Rattle.numbers.specs.Multiples.{gcd as gcdOf, lcm as lcmOf};
+ghost use Rattle.numbers.specs.Multiples.{gcd as gcd_of, lcm as lcm_of};
 
 // The greatest common divisor, by Euclid's algorithm.
 fn gcd(a: u32, b: u32) -> u32
-    ensures { result ≡ gcdOf a b }
+    ensures { result ≡ gcd_of a b }
 {
     let mut x = a;
     let mut y = b;
@@ -25,7 +25,7 @@ fn product(a: u32, b: u32) -> u64
 
 // The least common multiple; 0 where one of the two is 0.
 pub fn lcm(a: u32, b: u32) -> u64
-    ensures { result ≡ lcmOf a b }
+    ensures { result ≡ lcm_of a b }
 {
     let g = gcd(a, b);
     if g == 0 {

@@ -3,8 +3,8 @@ ghost use Rattle.std.specs.Prelude.{◌≡◌};
 ghost use Rattle.taskset.specs.Promise.{Reads};
 ghost use Rattle.taskset.specs.Table.{reading_of, Decided};
 ghost use Rattle.form.specs.Layout.{ReadsIn};
-ghost use Rattle.newform.specs.Form.{newFields, NewForm};
-ghost use Rattle.newform.specs.Limits.{firstTest, newShape, new};
+ghost use Rattle.newform.specs.Form.{new_fields, NewForm};
+ghost use Rattle.newform.specs.Limits.{first_test, new_shape, new};
 
 use fields::Fields;
 use refusal::{Cause, Outcome};
@@ -17,7 +17,7 @@ pub const EACH: usize = 9;
 
 // The fields that the bytes say; bytes past the end count as 0.
 pub fn decode(s: &[u8]) -> Fields
-    ensures { result ≡ newFields s.now }
+    ensures { result ≡ new_fields s.now }
 {
     let n = wire::size(wire::byte(s, 1));
     let charge = wire::wide(wire::byte(s, 3));
@@ -27,14 +27,14 @@ pub fn decode(s: &[u8]) -> Fields
 
 // Number 17.
 fn first_test(s: &[u8]) -> Outcome
-    ensures { result ≡ firstTest s.now }
+    ensures { result ≡ first_test s.now }
 {
     refusal::refuse_if(wire::byte(s, 0) != 0, Cause::FirstByte)
 }
 
 // The tests of a table's shape, for the fields that it says: numbers 1, 17, 2, 3 and 4.
 pub fn shape_tests(table: &[u8], f: Fields) -> Outcome
-    ensures { result ≡ newShape table.now f }
+    ensures { result ≡ new_shape table.now f }
 {
     let n = wire::size(wire::byte(table, 1));
     let short = form::short_test(table, LEAD);

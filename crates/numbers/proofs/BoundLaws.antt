@@ -12,29 +12,29 @@ use Rattle.numbers.specs.Bounds.{outside, Outside}
 use Rattle.numbers.proofs.BoolLaws.{or_cases}
 
 -- outside a range
-outside-is : (lo hi x : ℕ) → Outside lo hi x → outside lo hi x ≡ true
-outside-is lo hi x (inl p) = rw (lt-ltb x lo p)
-outside-is lo hi x (inr p) = rw (lt-ltb hi x p, or-true)
+outside_is : (lo hi x : ℕ) → Outside lo hi x → outside lo hi x ≡ true
+outside_is lo hi x (inl p) = rw (lt-ltb x lo p)
+outside_is lo hi x (inr p) = rw (lt-ltb hi x p, or-true)
 
-pub outside-exactly : (lo hi x : ℕ) → (outside lo hi x ≡ true) ↔ Outside lo hi x
-outside-exactly lo hi x = (λ e. ⊎_map (ltb-true x lo) (ltb-true hi x) (or_cases (ltb x lo) (ltb hi x) e), outside-is lo hi x)
+pub outside_exactly : (lo hi x : ℕ) → (outside lo hi x ≡ true) ↔ Outside lo hi x
+outside_exactly lo hi x = (λ e. ⊎_map (ltb-true x lo) (ltb-true hi x) (or_cases (ltb x lo) (ltb hi x) e), outside_is lo hi x)
 
-pub not-outside : (lo hi x : ℕ) → (Outside lo hi x → ⊥) ↔ ((lo ≤ x) × (x ≤ hi))
-not-outside lo hi x = (
+pub not_outside : (lo hi x : ℕ) → (Outside lo hi x → ⊥) ↔ ((lo ≤ x) × (x ≤ hi))
+not_outside lo hi x = (
   λ n. let a : ¬ (x < lo) = λ h. n (inl h) in let b : ¬ (hi < x) = λ h. n (inr h) in (omega arith, omega arith),
   λ h o. elim o [ inl p ↦ omega arith | inr p ↦ omega arith ],
 )
 
 -- less
-pub less-exactly : (a b : ℕ) → (ltb a b ≡ true) ↔ (a < b)
-less-exactly a b = (ltb-true a b, lt-ltb a b)
+pub less_exactly : (a b : ℕ) → (ltb a b ≡ true) ↔ (a < b)
+less_exactly a b = (ltb-true a b, lt-ltb a b)
 
-pub not-less : (a b : ℕ) → (a < b → ⊥) → b ≤ a
-not-less a b n = let m : ¬ (a < b) = n in omega arith
+pub not_less : (a b : ℕ) → (a < b → ⊥) → b ≤ a
+not_less a b n = let m : ¬ (a < b) = n in omega arith
 
 -- not equal
-pub unequal-exactly : (a b : ℕ) → (not (eqb a b) ≡ true) ↔ (a ≡ b → ⊥)
-unequal-exactly a b = (λ e. eqb-false a b (not-true _ e), λ n. rw (ne_eqb a b n))
+pub unequal_exactly : (a b : ℕ) → (not (eqb a b) ≡ true) ↔ (a ≡ b → ⊥)
+unequal_exactly a b = (λ e. eqb-false a b (not-true _ e), λ n. rw (ne_eqb a b n))
 
-pub not-unequal : (a b : ℕ) → ((a ≡ b → ⊥) → ⊥) → a ≡ b
-not-unequal a b n = (Dec.not-not (ℕ_discrete a b)).0 n
+pub not_unequal : (a b : ℕ) → ((a ≡ b → ⊥) → ⊥) → a ≡ b
+not_unequal a b n = (Dec.not-not (ℕ_discrete a b)).0 n

@@ -10,82 +10,82 @@ use native.Mathlib.Nat.{le_refl, le_trans, add-zero, add-suc, zero-add, suc-add,
 use native.Mathlib.Decide.{ℕ_discrete, dec_lt}
 use native.Mathlib.Omega.{arith}
 use borrow.Author.Tests.{eq-eqb, ne_eqb, lt-ltb, le-ltb}
-use Rattle.numbers.specs.Sums.{sumOver, sum_to, productTo}
+use Rattle.numbers.specs.Sums.{sum_over, sum_to, product_to}
 
 -- sums of equal terms
-pub sumTo-cong : (f g : ℕ → ℕ) (n : ℕ) → ((k : ℕ) → k < n → f k ≡ g k) → sum_to f n ≡ sum_to g n
+pub sum_to_cong : (f g : ℕ → ℕ) (n : ℕ) → ((k : ℕ) → k < n → f k ≡ g k) → sum_to f n ≡ sum_to g n
 unfolding sum_to
-sumTo-cong f g zero h = refl
-sumTo-cong f g (suc n) h = ap₂ ◌+◌ (h n (omega arith)) (sumTo-cong f g n (λ k b. h k (omega arith)))
+sum_to_cong f g zero h = refl
+sum_to_cong f g (suc n) h = ap₂ ◌+◌ (h n (omega arith)) (sum_to_cong f g n (λ k b. h k (omega arith)))
 
 -- sums of smaller terms
-pub sumTo-mono : (f g : ℕ → ℕ) (n : ℕ) → ((k : ℕ) → k < n → f k ≤ g k) → sum_to f n ≤ sum_to g n
+pub sum_to_mono : (f g : ℕ → ℕ) (n : ℕ) → ((k : ℕ) → k < n → f k ≤ g k) → sum_to f n ≤ sum_to g n
 unfolding sum_to
-sumTo-mono f g zero h = omega arith
-sumTo-mono f g (suc n) h = omega (arith, h n (omega arith), sumTo-mono f g n (λ k l. h k (omega arith)))
+sum_to_mono f g zero h = omega arith
+sum_to_mono f g (suc n) h = omega (arith, h n (omega arith), sum_to_mono f g n (λ k l. h k (omega arith)))
 
 -- more terms
-pub sumTo-grows : (f : ℕ → ℕ) (n w : ℕ) → sum_to f n ≤ sum_to f (w + n)
+pub sum_to_grows : (f : ℕ → ℕ) (n w : ℕ) → sum_to f n ≤ sum_to f (w + n)
 unfolding sum_to
-sumTo-grows f n zero = rw zero-add (le_refl _)
-sumTo-grows f n (suc w) = rw suc-add (omega (arith, sumTo-grows f n w))
+sum_to_grows f n zero = rw zero-add (le_refl _)
+sum_to_grows f n (suc w) = rw suc-add (omega (arith, sum_to_grows f n w))
 
 -- terms of at most b add up to at most n times b
-pub sumTo-bound : (f : ℕ → ℕ) (n b : ℕ) → ((k : ℕ) → k < n → f k ≤ b) → sum_to f n ≤ n * b
+pub sum_to_bound : (f : ℕ → ℕ) (n b : ℕ) → ((k : ℕ) → k < n → f k ≤ b) → sum_to f n ≤ n * b
 unfolding sum_to
-sumTo-bound f zero b h = omega arith
-sumTo-bound f (suc n) b h = omega (arith, h n (omega arith), sumTo-bound f n b (λ k l. h k (omega arith)))
+sum_to_bound f zero b h = omega arith
+sum_to_bound f (suc n) b h = omega (arith, h n (omega arith), sum_to_bound f n b (λ k l. h k (omega arith)))
 
-pub sumTo-add : (f g : ℕ → ℕ) (n : ℕ) → sum_to (λ k. f k + g k) n ≡ sum_to f n + sum_to g n
+pub sum_to_add : (f g : ℕ → ℕ) (n : ℕ) → sum_to (λ k. f k + g k) n ≡ sum_to f n + sum_to g n
 unfolding sum_to
-sumTo-add f g zero = refl
-sumTo-add f g (suc n) = omega (arith, sumTo-add f g n)
+sum_to_add f g zero = refl
+sum_to_add f g (suc n) = omega (arith, sum_to_add f g n)
 
 -- as many ones as there are terms
-pub sumTo-ones : (n : ℕ) → sum_to (λ k. 1) n ≡ n
+pub sum_to_ones : (n : ℕ) → sum_to (λ k. 1) n ≡ n
 unfolding sum_to
-sumTo-ones zero = refl
-sumTo-ones (suc n) = omega (arith, sumTo-ones n)
+sum_to_ones zero = refl
+sum_to_ones (suc n) = omega (arith, sum_to_ones n)
 
-pub sumOver-ones : (l : List ℕ) → sumOver (λ x. 1) l ≡ length l
-unfolding sumOver
-sumOver-ones [] = refl
-sumOver-ones (x ∷ l) = omega (arith, sumOver-ones l)
+pub sum_over_ones : (l : List ℕ) → sum_over (λ x. 1) l ≡ length l
+unfolding sum_over
+sum_over_ones [] = refl
+sum_over_ones (x ∷ l) = omega (arith, sum_over_ones l)
 
 -- the first term apart
-pub sumTo-front : (f : ℕ → ℕ) (n : ℕ) → sum_to f (suc n) ≡ f 0 + sum_to (λ k. f (suc k)) n
+pub sum_to-front : (f : ℕ → ℕ) (n : ℕ) → sum_to f (suc n) ≡ f 0 + sum_to (λ k. f (suc k)) n
 unfolding sum_to
-sumTo-front f zero = refl
-sumTo-front f (suc n) = omega (arith, sumTo-front f n)
+sum_to-front f zero = refl
+sum_to-front f (suc n) = omega (arith, sum_to-front f n)
 
 -- n terms of at most 1 that make n are all 1
-pub sumTo-full : (f : ℕ → ℕ) (n : ℕ) → ((k : ℕ) → k < n → f k ≤ 1) → sum_to f n ≡ n → (k : ℕ) → k < n → f k ≡ 1
+pub sum_to-full : (f : ℕ → ℕ) (n : ℕ) → ((k : ℕ) → k < n → f k ≤ 1) → sum_to f n ≡ n → (k : ℕ) → k < n → f k ≡ 1
 unfolding sum_to
-sumTo-full f zero h e k l = absurd (omega arith)
-sumTo-full f (suc n) h e k l =
-    let rest = sumTo-bound f n 1 (λ j i. h j (omega arith)) in
+sum_to-full f zero h e k l = absurd (omega arith)
+sum_to-full f (suc n) h e k l =
+    let rest = sum_to_bound f n 1 (λ j i. h j (omega arith)) in
     by_cases (ℕ_discrete k n)
     (λ (q : k ≡ n). rw q (omega (arith, h n (omega arith))))
-    (λ q. sumTo-full f n (λ j i. h j (omega arith)) (omega (arith, h n (omega arith))) k (omega arith))
+    (λ q. sum_to-full f n (λ j i. h j (omega arith)) (omega (arith, h n (omega arith))) k (omega arith))
 
 -- terms of 0 from n on add nothing
-pub sumTo-above : (f : ℕ → ℕ) (n w : ℕ) → ((k : ℕ) → n ≤ k → f k ≡ 0) → sum_to f (n + w) ≡ sum_to f n
+pub sum_to_above : (f : ℕ → ℕ) (n w : ℕ) → ((k : ℕ) → n ≤ k → f k ≡ 0) → sum_to f (n + w) ≡ sum_to f n
 unfolding sum_to
-sumTo-above f n zero h = ap (sum_to f) (add-zero n)
-sumTo-above f n (suc w) h = ap (sum_to f) (add-suc n w) ∙ omega (arith, h (n + w) (omega arith), sumTo-above f n w h)
+sum_to_above f n zero h = ap (sum_to f) (add-zero n)
+sum_to_above f n (suc w) h = ap (sum_to f) (add-suc n w) ∙ omega (arith, h (n + w) (omega arith), sum_to_above f n w h)
 
 -- f x where k is x
 abbrev pub only : ℕ → (ℕ → ℕ) → ℕ → ℕ
 only x f k = cond (eqb x k) (f k) 0
 
 -- a sum with one term at most
-pub sumTo-only : (x : ℕ) (f : ℕ → ℕ) (n : ℕ) → sum_to (only x f) n ≡ cond (ltb x n) (f x) 0
+pub sum_to-only : (x : ℕ) (f : ℕ → ℕ) (n : ℕ) → sum_to (only x f) n ≡ cond (ltb x n) (f x) 0
 unfolding sum_to
-sumTo-only x f zero = rw (le-ltb x 0 (omega arith))
-sumTo-only x f (suc n) =
+sum_to-only x f zero = rw (le-ltb x 0 (omega arith))
+sum_to-only x f (suc n) =
     by_cases (ℕ_discrete x n)
-    (λ e. rw (eq-eqb x n e, sumTo-only x f n, le-ltb x n (omega arith), lt-ltb x (suc n) (omega arith), e) (omega arith))
-    (λ d. rw (ne_eqb x n d, sumTo-only x f n, zero-add)
+    (λ e. rw (eq-eqb x n e, sum_to-only x f n, le-ltb x n (omega arith), lt-ltb x (suc n) (omega arith), e) (omega arith))
+    (λ d. rw (ne_eqb x n d, sum_to-only x f n, zero-add)
     (by_cases (dec_lt x n)
     (λ h. rw (lt-ltb x n h, lt-ltb x (suc n) (omega arith)))
     (λ h. rw (le-ltb x n (omega arith), le-ltb x (suc n) (omega arith)))))
@@ -93,19 +93,19 @@ sumTo-only x f (suc n) =
 -- ---- products
 
 -- products of smaller factors
-pub productTo-cong : (f g : ℕ → ℕ) (n : ℕ) → ((k : ℕ) → k < n → f k ≡ g k) → productTo f n ≡ productTo g n
-unfolding productTo
-productTo-cong f g zero h = refl
-productTo-cong f g (suc n) h = rw (h n (omega arith), productTo-cong f g n (λ k i. h k (omega arith)))
+pub product_to_cong : (f g : ℕ → ℕ) (n : ℕ) → ((k : ℕ) → k < n → f k ≡ g k) → product_to f n ≡ product_to g n
+unfolding product_to
+product_to_cong f g zero h = refl
+product_to_cong f g (suc n) h = rw (h n (omega arith), product_to_cong f g n (λ k i. h k (omega arith)))
 
-pub productTo-mono : (f g : ℕ → ℕ) (n : ℕ) → ((k : ℕ) → k < n → f k ≤ g k) → productTo f n ≤ productTo g n
-unfolding productTo
-productTo-mono f g zero h = omega arith
-productTo-mono f g (suc n) h = mul-le-mul (h n (omega arith)) (productTo-mono f g n (λ k l. h k (omega arith)))
+pub product_to_mono : (f g : ℕ → ℕ) (n : ℕ) → ((k : ℕ) → k < n → f k ≤ g k) → product_to f n ≤ product_to g n
+unfolding product_to
+product_to_mono f g zero h = omega arith
+product_to_mono f g (suc n) h = mul-le-mul (h n (omega arith)) (product_to_mono f g n (λ k l. h k (omega arith)))
 
 -- further factors of at least 1
-pub productTo-grows : (f : ℕ → ℕ) (n w : ℕ) → ((k : ℕ) → 1 ≤ f k) → productTo f n ≤ productTo f (w + n)
-unfolding productTo
-productTo-grows f n zero h = rw zero-add (le_refl _)
-productTo-grows f n (suc w) h =
-    rw suc-add (le_trans (productTo-grows f n w h) (omega (arith, mul-le-mul_right (productTo f (w + n)) (h (w + n)))))
+pub product_to_grows : (f : ℕ → ℕ) (n w : ℕ) → ((k : ℕ) → 1 ≤ f k) → product_to f n ≤ product_to f (w + n)
+unfolding product_to
+product_to_grows f n zero h = rw zero-add (le_refl _)
+product_to_grows f n (suc w) h =
+    rw suc-add (le_trans (product_to_grows f n w h) (omega (arith, mul-le-mul_right (product_to f (w + n)) (h (w + n)))))

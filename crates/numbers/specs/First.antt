@@ -2,13 +2,13 @@
 use Rattle.std.specs.Prelude.{ℕ, zero, suc, ◌+◌, ◌<◌, ◌≡◌, Bool, cond}
 
 -- the first of the k indices from i on at which p holds, counted from 1; 0 if there is none
-unfoldable pub firstFrom : (ℕ → Bool) → ℕ → ℕ → ℕ
-firstFrom p i zero = 0
-firstFrom p i (suc k) = cond (p i) (i + 1) (firstFrom p (i + 1) k)
+unfoldable pub first_from : (ℕ → Bool) → ℕ → ℕ → ℕ
+first_from p i zero = 0
+first_from p i (suc k) = cond (p i) (i + 1) (first_from p (i + 1) k)
 
 -- the first of the indices below n at which p holds, counted from 1; 0 if there is none
 unfoldable pub first : (ℕ → Bool) → ℕ → ℕ
-first p n = firstFrom p 0 n
+first p n = first_from p 0 n
 
 -- k is the first index below n at which P holds
 pub record IsFirst (P : ℕ → Type 0) (n k : ℕ) : Type 0 where

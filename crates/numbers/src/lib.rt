@@ -1,10 +1,10 @@
 // A test of ranges, rows with one entry changed and whole sums.
 ghost use Rattle.std.specs.Prelude.{◌≡◌, ◌+◌, min, set};
-ghost use Rattle.numbers.specs.Bounds.{outside as outsideOf};
+ghost use Rattle.numbers.specs.Bounds.{outside as outside_of};
 
 // Whether `x` lies outside `lo` to `hi`.
 pub fn outside(lo: u64, hi: u64, x: u64) -> bool
-    ensures { result ≡ outsideOf lo hi x }
+    ensures { result ≡ outside_of lo hi x }
 {
     (x < lo) | (hi < x)
 }

@@ -2,12 +2,12 @@
 // core; and these a task set or a refusal.
 ghost use Rattle.std.specs.Prelude.{◌≡◌, replicate};
 ghost use Rattle.numbers.specs.Rows.{row, entry};
-ghost use Rattle.taskset.specs.Reading.{readingBy};
+ghost use Rattle.taskset.specs.Reading.{reading_by};
 ghost use Rattle.taskset.specs.Promise.{Reads};
 ghost use Rattle.taskset.specs.Table.{reading_of, Decided};
 ghost use Rattle.form.specs.Layout.{ReadsIn};
-ghost use Rattle.oldform.specs.Form.{oldFields, everyAffinity, FormBeside};
-ghost use Rattle.oldform.specs.Limits.{oldOutcome, beside, alone};
+ghost use Rattle.oldform.specs.Form.{old_fields, every_affinity, FormBeside};
+ghost use Rattle.oldform.specs.Limits.{old_outcome, beside, alone};
 
 use fields::MOST_TASKS;
 use taskset::Reading;
@@ -34,7 +34,7 @@ fn repeated(byte: u8, n: usize) -> [u8; MOST_TASKS]
 
 // Reads a table with this charge, and with sixteen core bytes of which so many were given.
 fn read_with(s: &[u8], charge: u32, affinity: [u8; MOST_TASKS], given: usize) -> Reading
-    ensures { result ≡ readingBy (oldOutcome s.now (oldFields s.now charge affinity given)) (oldFields s.now charge affinity given) }
+    ensures { result ≡ reading_by (old_outcome s.now (old_fields s.now charge affinity given)) (old_fields s.now charge affinity given) }
 {
     let n = wire::size(wire::byte(s, 0));
     let f = form::decode(s, 0, LEAD, charge, affinity, given);
@@ -60,7 +60,7 @@ pub fn read_alone(table: &[u8]) -> Reading
     ensures answer { result ≡ reading_of (alone table.now) }
     ensures decides { Decided (alone table.now) result.outcome }
     ensures reads { Reads result }
-    ensures stored { ReadsIn (FormBeside 0 (everyAffinity table.now)) table.now result }
+    ensures stored { ReadsIn (FormBeside 0 (every_affinity table.now)) table.now result }
 {
     let n = wire::size(wire::byte(table, 0));
     let m = wire::size(wire::byte(table, 1));

@@ -4,7 +4,7 @@ ghost use Rattle.std.specs.Bool.{xor};
 ghost use Rattle.numbers.specs.Loads.{sum};
 ghost use Rattle.affinity.specs.Permitted.{permitted};
 ghost use Rattle.allocation.specs.Rule.{twins};
-ghost use Rattle.outset.specs.Twins.{twinRows};
+ghost use Rattle.outset.specs.Twins.{twin_rows};
 
 // Whether a task with this core byte permits one of two cores alone, each the core after so many others.
 fn tells_apart(byte: u8, c: u32, d: u32) -> bool
@@ -32,7 +32,7 @@ fn are_twins(affinity: [u8; 16], n: usize, c: u32, d: u32) -> bool
 // Which cores are twins: entry 4 * c + d is whether those after c and d others are. Made once, before the walk.
 pub fn twin_rows(affinity: [u8; 16], n: usize) -> [bool; 16]
     requires { n ≤ 16 }
-    ensures { result ≡ twinRows affinity n }
+    ensures { result ≡ twin_rows affinity n }
 {
     let mut rows = [false; 16];
     let mut i: usize = 0;

@@ -1,6 +1,6 @@
 // Numbers and bytes put into a lent output, as tables and plans are stored.
 ghost use Rattle.std.specs.Prelude.{◌≡◌, ◌+◌, ◌*◌, ◌≤◌, length, take};
-ghost use Rattle.wire.specs.Bytes.{bytes_of, bytesOfAll, over};
+ghost use Rattle.wire.specs.Bytes.{bytes_of, bytes_of_all, over};
 
 // Puts the four bytes of `x` at `at`, lowest byte first.
 fn put_word(out: &mut [u8], at: usize, x: u32)
@@ -16,7 +16,7 @@ fn put_word(out: &mut [u8], at: usize, x: u32)
 // Puts the first `n` numbers of a row one after another from `at` on.
 pub fn put_words(out: &mut [u8], at: usize, row: [u32; 16], n: usize)
     requires { (n ≤ 16) × (at + 4 * n ≤ length out.old) }
-    ensures { out.new ≡ over out.old at (bytesOfAll (take n row)) }
+    ensures { out.new ≡ over out.old at (bytes_of_all (take n row)) }
 {
     let mut k = 0;
     while k < n {

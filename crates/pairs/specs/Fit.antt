@@ -27,9 +27,9 @@ abbrev pub PairFits : ℕ → List ℕ → List ℕ → ℕ → Type 0
 PairFits n periods list i = Fit n periods (get_or list (1 + i) 0) (get_or list (1 + get_or list 0 0 + i) 0)
 
 -- number 19: there are no bytes, k is above 64, or the length is not 1 + 2 times k
-abbrev pub listUnformed : List ℕ → Condition
-listUnformed list = only 19 ((length list ≡ 0) ⊎ ((64 < get_or list 0 0) ⊎ (length list ≢ 1 + 2 * get_or list 0 0)))
+abbrev pub list_unformed : List ℕ → Condition
+list_unformed list = only 19 ((length list ≡ 0) ⊎ ((64 < get_or list 0 0) ⊎ (length list ≢ 1 + 2 * get_or list 0 0)))
 
 -- number 20: a pair holds a number that is no task's, names one task twice, or has periods that do not fit
-abbrev pub pairUnfit : ℕ → List ℕ → List ℕ → Condition
-pairUnfit n periods list = at 20 (λ i. PairFits n periods list i → ⊥) (get_or list 0 0)
+abbrev pub pair_unfit : ℕ → List ℕ → List ℕ → Condition
+pair_unfit n periods list = at 20 (λ i. PairFits n periods list i → ⊥) (get_or list 0 0)

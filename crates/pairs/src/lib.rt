@@ -1,6 +1,6 @@
 // A dependency list, which names pairs of a task that feeds and one that is fed: its pairs, the test of its shape, the test of one pair.
 ghost use Rattle.std.specs.Prelude.{◌≡◌, ◌<◌};
-ghost use Rattle.pairs.specs.Pairs.{pairCount, feeding as feedingOf, fed as fedOf, listTest, multiple, periodOf, unfit};
+ghost use Rattle.pairs.specs.Pairs.{pair_count, feeding as feeding_of, fed as fed_of, list_test, multiple, period_of, unfit};
 
 use refusal::{Cause, Outcome};
 
@@ -9,7 +9,7 @@ pub const MOST_PAIRS: usize = 64;
 
 // How many pairs the list names.
 pub fn count(list: &[u8]) -> usize
-    ensures { (result ≡ pairCount list.now) × (result < 256) }
+    ensures { (result ≡ pair_count list.now) × (result < 256) }
 {
     wire::size(wire::byte(list, 0))
 }
@@ -17,7 +17,7 @@ pub fn count(list: &[u8]) -> usize
 // The task that feeds, of pair `i` counted from 0.
 pub fn feeding(list: &[u8], i: usize) -> usize
     requires { i < 256 }
-    ensures { (result ≡ feedingOf list.now i) × (result < 256) }
+    ensures { (result ≡ feeding_of list.now i) × (result < 256) }
 {
     wire::size(wire::byte(list, 1 + i))
 }
@@ -25,7 +25,7 @@ pub fn feeding(list: &[u8], i: usize) -> usize
 // The task that is fed, of pair `i` counted from 0.
 pub fn fed(list: &[u8], i: usize) -> usize
     requires { i < 256 }
-    ensures { (result ≡ fedOf list.now i) × (result < 256) }
+    ensures { (result ≡ fed_of list.now i) × (result < 256) }
 {
     let k = count(list);
     wire::size(wire::byte(list, 1 + k + i))
@@ -33,7 +33,7 @@ pub fn fed(list: &[u8], i: usize) -> usize
 
 // Number 19.
 pub fn list_test(list: &[u8]) -> Outcome
-    ensures { result ≡ listTest list.now }
+    ensures { result ≡ list_test list.now }
 {
     let k = count(list);
     let length = list.len();
@@ -55,7 +55,7 @@ fn is_multiple(p: u32, q: u32) -> bool
 
 // The period of task `t`; 0 if there is none.
 fn period_of(periods: [u32; 16], t: usize) -> u32
-    ensures { result ≡ periodOf periods t }
+    ensures { result ≡ period_of periods t }
 {
     if t == 0 {
         return 0;

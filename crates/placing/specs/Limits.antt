@@ -5,37 +5,37 @@ use Rattle.numbers.specs.Rows.{entry}
 use Rattle.affinity.specs.Permitted.{permitted}
 use Rattle.refusal.specs.Conditions.{Condition, only}
 use Rattle.fields.specs.declared.Fields.{Fields}
-use Rattle.fields.specs.Fields.{affinityAt}
-use Rattle.fields.specs.Hyperperiod.{hyperperiodOf}
-use Rattle.taskset.specs.Demands.{loadOn}
+use Rattle.fields.specs.Fields.{affinity_at}
+use Rattle.fields.specs.Hyperperiod.{hyperperiod_of}
+use Rattle.taskset.specs.Demands.{load_on}
 use Rattle.taskset.specs.Table.{Table, also}
-use Rattle.entries.specs.Limits.{otherPlaces, coreAbove, coreBarred}
-use Rattle.placing.specs.Tests.{placingOutcome}
+use Rattle.entries.specs.Limits.{other_places, core_above, core_barred}
+use Rattle.placing.specs.Tests.{placing_outcome}
 
 -- A placement, a core and its load within the paper's limits.
 pub record Placed (f : Fields) (placement : List ℕ) (core : ℕ) : Type 0 where
   pub exact : length placement ≡ f.n
   pub entries : (k : ℕ) → k < f.n → entry placement k ≤ f.m
-  pub permitted : (k : ℕ) → k < f.n → 1 ≤ entry placement k → permitted (affinityAt f k) (entry placement k) ≡ true
+  pub permitted : (k : ℕ) → k < f.n → 1 ≤ entry placement k → permitted (affinity_at f k) (entry placement k) ≡ true
   pub number : (1 ≤ core) × (core ≤ f.m)
-  pub fits : loadOn f placement core ≤ hyperperiodOf f
+  pub fits : load_on f placement core ≤ hyperperiod_of f
 
 -- The refusals of the chosen core: number 10 of its number,
-abbrev pub numberOutside : Fields → ℕ → Condition
-numberOutside f core = only 10 (Outside 1 f.m core)
+abbrev pub number_outside : Fields → ℕ → Condition
+number_outside f core = only 10 (Outside 1 f.m core)
 
 -- and 11 of its load.
-abbrev pub loadAbove : Fields → List ℕ → ℕ → Condition
-loadAbove f placement core = only 11 (hyperperiodOf f < loadOn f placement core)
+abbrev pub load_above : Fields → List ℕ → ℕ → Condition
+load_above f placement core = only 11 (hyperperiod_of f < load_on f placement core)
 
 -- The refusals of the placing, those of the placement first. They are tested in this order, each over all tasks before the next.
 abbrev pub placing : Fields → List ℕ → ℕ → List Condition
-placing f placement core = otherPlaces f placement ∷ coreAbove f placement ∷ coreBarred f placement ∷ numberOutside f core ∷ loadAbove f placement core ∷ []
+placing f placement core = other_places f placement ∷ core_above f placement ∷ core_barred f placement ∷ number_outside f core ∷ load_above f placement core ∷ []
 
 -- Where every core is permitted to each task: numbers 9, 10 and 11.
-abbrev pub placingAlone : Fields → List ℕ → ℕ → List Condition
-placingAlone f placement core = otherPlaces f placement ∷ coreAbove f placement ∷ numberOutside f core ∷ loadAbove f placement core ∷ []
+abbrev pub placing_alone : Fields → List ℕ → ℕ → List Condition
+placing_alone f placement core = other_places f placement ∷ core_above f placement ∷ number_outside f core ∷ load_above f placement core ∷ []
 
 -- What a fresh core is given: a table, whose tests come first, a placement and a core number.
 abbrev pub placed : Table → List ℕ → ℕ → Table
-placed t placement core = also t (placingOutcome t.fields placement core) (Placed t.fields placement core) (placing t.fields placement core)
+placed t placement core = also t (placing_outcome t.fields placement core) (Placed t.fields placement core) (placing t.fields placement core)

@@ -1,7 +1,7 @@
 // The test of a core number, and all tests of a placing in their order, for a checked task set.
 ghost use Rattle.std.specs.Prelude.{◌≡◌};
 ghost use Rattle.taskset.specs.Promise.{Checked};
-ghost use Rattle.placing.specs.Tests.{coreTest, placingOutcome};
+ghost use Rattle.placing.specs.Tests.{core_test, placing_outcome};
 
 use fields::Fields;
 use refusal::{Cause, Outcome};
@@ -9,7 +9,7 @@ use taskset::TaskSet;
 
 // Number 10.
 fn core_test(f: Fields, core: u8) -> Outcome
-    ensures { result ≡ coreTest f core }
+    ensures { result ≡ core_test f core }
 {
     refusal::refuse_if(
         numbers::outside(1, f.m as u64, core as u64),
@@ -20,7 +20,7 @@ fn core_test(f: Fields, core: u8) -> Outcome
 // Numbers 9, 16, 10 and 11.
 pub fn placing_tests(t: TaskSet, placement: &[u8], core: u8) -> Outcome
     requires { Checked t }
-    ensures { result ≡ placingOutcome t.fields placement.now core }
+    ensures { result ≡ placing_outcome t.fields placement.now core }
 {
     let f = t.fields;
     let places = entries::places_test(f, placement);

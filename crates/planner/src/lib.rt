@@ -3,7 +3,7 @@ ghost use Rattle.std.specs.Prelude.{◌≡◌};
 ghost use Rattle.taskset.specs.Promise.{Checked, Reads};
 ghost use Rattle.taskset.specs.Table.{Decided};
 ghost use Rattle.oldform.specs.Limits.{beside};
-ghost use Rattle.planner.specs.Plan.{verdictOf, planFor, refusedPlan, planBy, plan_of, verdictOutcome};
+ghost use Rattle.planner.specs.Plan.{verdict_of, plan_for, refused_plan, plan_by, plan_of, verdict_outcome};
 ghost use Rattle.planner.specs.Promise.{Plans};
 
 use refusal::{Cause, Outcome};
@@ -33,7 +33,7 @@ pub struct Allocation {
 
 // All if nothing is left out, unless the walk was spent.
 fn verdict_of(spent: bool, rejected: u32) -> Verdict
-    ensures { result ≡ verdictOf spent rejected }
+    ensures { result ≡ verdict_of spent rejected }
 {
     if spent {
         return Verdict::Spent;
@@ -46,7 +46,7 @@ fn verdict_of(spent: bool, rejected: u32) -> Verdict
 
 // What a verdict says of the call.
 pub fn verdict_outcome(verdict: Verdict) -> Outcome
-    ensures { result ≡ verdictOutcome verdict }
+    ensures { result ≡ verdict_outcome verdict }
 {
     match verdict {
         Verdict::All => Outcome::Accepted,
@@ -58,7 +58,7 @@ pub fn verdict_outcome(verdict: Verdict) -> Outcome
 
 // A refused plan: zeros beside the cause.
 fn refused(cause: Cause) -> Allocation
-    ensures { result ≡ refusedPlan cause }
+    ensures { result ≡ refused_plan cause }
 {
     Allocation {
         verdict: Verdict::Refused(cause),
@@ -71,7 +71,7 @@ fn refused(cause: Cause) -> Allocation
 // The plan of a checked task set: the walk over its tasks in planning order.
 pub fn plan_tasks(t: TaskSet, limit: u32) -> Allocation
     requires { Checked t }
-    ensures { result ≡ planFor t.fields limit }
+    ensures { result ≡ plan_for t.fields limit }
 {
     let n = t.fields.n;
     let order = ordering::planning_order(t);
@@ -93,7 +93,7 @@ pub fn plan_tasks(t: TaskSet, limit: u32) -> Allocation
 // The plan of a table that was read, whatever its stored form; a refused one has none.
 pub fn plan_read(reading: Reading, limit: u32) -> Allocation
     requires { Reads reading }
-    ensures { result ≡ planBy limit reading.outcome reading.tasks.fields }
+    ensures { result ≡ plan_by limit reading.outcome reading.tasks.fields }
 {
     let outcome = reading.outcome;
     match outcome {
@@ -105,7 +105,7 @@ pub fn plan_read(reading: Reading, limit: u32) -> Allocation
 // Plans a stored table, on a board with this charge, each task on the cores that its core byte permits, in at most `limit` steps.
 pub fn plan(table: &[u8], charge: u32, affinity: &[u8], limit: u32) -> Allocation
     ensures answer { result ≡ plan_of (beside table.now charge affinity.now) limit }
-    ensures decides { Decided (beside table.now charge affinity.now) (verdictOutcome result.verdict) }
+    ensures decides { Decided (beside table.now charge affinity.now) (verdict_outcome result.verdict) }
     ensures plans { Plans (beside table.now charge affinity.now) limit result }
 {
     let reading = oldform::read_beside(table, charge, affinity);

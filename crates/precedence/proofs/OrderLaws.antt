@@ -10,7 +10,7 @@ use native.Mathlib.Omega.{arith}
 use Rattle.numbers.proofs.RowLaws.{by_entries}
 use Rattle.precedence.specs.Paths.{AmongTasks, Path, one, more, OnCircle}
 use Rattle.precedence.specs.Order.{Ready, IsOrder}
-use Rattle.precedence.proofs.CircleLaws.{path-task}
+use Rattle.precedence.proofs.CircleLaws.{path_task}
 
 module _ {Feeds : ℕ → ℕ → Type 0} {n : ℕ} (among : AmongTasks n Feeds) where
   -- what stands at a place is ready there
@@ -43,8 +43,8 @@ module _ {Feeds : ℕ → ℕ → Type 0} {n : ℕ} (among : AmongTasks n Feeds)
         (v.lowest i h (get_or p i 0) (ready-same ih (stands-ready u i h)))))
 
     -- Two orders are the same.
-    pub order-unique : length p ≡ length q → p ≡ q
-    order-unique e =
+    pub order_unique : length p ≡ length q → p ≡ q
+    order_unique e =
         by_entries 0 e refl (λ k b.
         by_cases (dec_lt k n) (same-before n (omega arith) k)
         (λ (l : ¬ (k < n)). u.beyond k (omega arith) ∙ sym (v.beyond k (omega arith))))
@@ -57,5 +57,5 @@ module _ {Feeds : ℕ → ℕ → Type 0} {n : ℕ} (among : AmongTasks n Feeds)
       omega (arith, o.after i m.0 h m.1 (rw (x, m.2) e), rises o p m.0 j m.1 g m.2 y)
 
   -- so where there is an order no task lies on a circle.
-  pub order-no-circle : {order : List ℕ} → IsOrder Feeds n order → (t : ℕ) → OnCircle Feeds t → ⊥
-  order-no-circle o t c = let m = o.each t (path-task among c) in omega (arith, rises o c m.0 m.0 m.1 m.1 m.2 m.2)
+  pub order_no_circle : {order : List ℕ} → IsOrder Feeds n order → (t : ℕ) → OnCircle Feeds t → ⊥
+  order_no_circle o t c = let m = o.each t (path_task among c) in omega (arith, rises o c m.0 m.0 m.1 m.1 m.2 m.2)

@@ -8,18 +8,18 @@ use lib.Dec.{eqb}
 use lib.ListN.{length, get_or}
 use native.Mathlib.Omega.{arith}
 use borrow.Author.Tests.{eq-eqb, eqb-true, not-true, not-false}
-use Rattle.numbers.proofs.BoolLaws.{true-or-false, or_cases, and_left, and_right}
-use Rattle.numbers.proofs.FirstLaws.{first-zero, first-clear}
+use Rattle.numbers.proofs.BoolLaws.{true_or_false, or_cases, and_left, and_right}
+use Rattle.numbers.proofs.FirstLaws.{first_zero, first_clear}
 use Rattle.precedence.specs.Paths.{AmongTasks}
 use Rattle.precedence.specs.Order.{Stands, Ready}
-use Rattle.precedence.specs.Sequence.{stands, holdsUp, waits, isReady}
+use Rattle.precedence.specs.Sequence.{stands, holds_up, waits, is_ready}
 
 -- ---- what stands in a list
 
-pub stands-last : (l : List ℕ) (x t : ℕ) → stands (l ++ (x ∷ [])) t ≡ (stands l t || eqb x t)
+pub stands_last : (l : List ℕ) (x t : ℕ) → stands (l ++ (x ∷ [])) t ≡ (stands l t || eqb x t)
 unfolding stands
-stands-last [] x t = or-false (eqb x t)
-stands-last (y ∷ l) x t = ⊎_elim (λ e. rw e) (λ e. rw e (stands-last l x t)) (true-or-false (eqb y t))
+stands_last [] x t = or-false (eqb x t)
+stands_last (y ∷ l) x t = ⊎_elim (λ e. rw e) (λ e. rw e (stands_last l x t)) (true_or_false (eqb y t))
 
 -- as computed and as stated
 stands_at : (l : List ℕ) (t : ℕ) → stands l t ≡ true → Stands l (length l) t
@@ -37,43 +37,43 @@ at-stands [] j h = absurd (omega arith)
 at-stands (x ∷ l) zero h = rw (eq-eqb x x refl)
 at-stands (x ∷ l) (suc j) h = rw (at-stands l j (omega arith), or-true)
 
-pub stands-exactly : (l : List ℕ) (t : ℕ) → (stands l t ≡ true) ↔ Stands l (length l) t
-stands-exactly l t = (stands_at l t, λ s. rw s.2 at (at-stands l s.0 s.1))
+pub stands_exactly : (l : List ℕ) (t : ℕ) → (stands l t ≡ true) ↔ Stands l (length l) t
+stands_exactly l t = (stands_at l t, λ s. rw s.2 at (at-stands l s.0 s.1))
 
 -- ---- as computed and as stated
 
 module _ {f : ℕ → ℕ → Bool} {Feeds : ℕ → ℕ → Type 0} (decided : (a b : ℕ) → (f a b ≡ true) ↔ Feeds a b) {n : ℕ} (among : AmongTasks n Feeds) (l : List ℕ) where
   -- all that feed t stand
   fed-stands : (t : ℕ) → waits f n (stands l) t ≡ false → (a : ℕ) → Feeds a t → stands l a ≡ true
-  unfolding waits holdsUp
+  unfolding waits holds_up
   fed-stands t e a h =
       let k = (among a t h).0 in
       let d : suc (pred a) ≡ a = omega (arith, k.least) in
       let none : (f (suc (pred a)) t && not (stands l (suc (pred a)))) ≡ false =
-      first-zero (λ k. f (suc k) t && not (stands l (suc k))) n (eqb-true _ 0 (not-false _ e)) (pred a) (omega (arith, k.least, k.most)) in
+      first_zero (λ k. f (suc k) t && not (stands l (suc k))) n (eqb-true _ 0 (not-false _ e)) (pred a) (omega (arith, k.least, k.most)) in
       let here : not (stands l a) ≡ false = rw (d, (decided a t).1 h) at none in
       not-false _ here
 
   stands-fed : (t : ℕ) → ((a : ℕ) → Feeds a t → stands l a ≡ true) → waits f n (stands l) t ≡ false
-  unfolding waits holdsUp
+  unfolding waits holds_up
   stands-fed t h =
-      rw (first-clear (λ k. f (suc k) t && not (stands l (suc k))) n
-      (λ k b. ⊎_elim (λ e. rw (h (suc k) ((decided (suc k) t).0 e)) (and-false (f (suc k) t))) (λ e. rw e) (true-or-false (f (suc k) t))))
+      rw (first_clear (λ k. f (suc k) t && not (stands l (suc k))) n
+      (λ k b. ⊎_elim (λ e. rw (h (suc k) ((decided (suc k) t).0 e)) (and-false (f (suc k) t))) (λ e. rw e) (true_or_false (f (suc k) t))))
 
-  pub ready-exactly : (k : ℕ) → k < n → (isReady f n (stands l) k ≡ true) ↔ Ready Feeds n l (length l) (suc k)
-  unfolding isReady
-  ready-exactly k b = (
+  pub ready_exactly : (k : ℕ) → k < n → (is_ready f n (stands l) k ≡ true) ↔ Ready Feeds n l (length l) (suc k)
+  unfolding is_ready
+  ready_exactly k b = (
     λ e.
         let new : stands l (suc k) ≡ false = not-true _ (and_left (not (stands l (suc k))) (not (waits f n (stands l) (suc k))) e) in
         let fed : waits f n (stands l) (suc k) ≡ false = not-true _ (and_right (not (stands l (suc k))) (not (waits f n (stands l) (suc k))) e) in
         record {
           task = record { least = omega arith; most = b };
-          new = λ s. true≢false (sym ((stands-exactly l (suc k)).1 s) ∙ new);
-          fed = λ a h. (stands-exactly l a).0 (fed-stands (suc k) fed a h);
+          new = λ s. true≢false (sym ((stands_exactly l (suc k)).1 s) ∙ new);
+          fed = λ a h. (stands_exactly l a).0 (fed-stands (suc k) fed a h);
         },
     λ r.
         rw (
-          ⊎_elim (λ e. absurd (r.new ((stands-exactly l (suc k)).0 e))) (λ e. e) (true-or-false (stands l (suc k))),
-          stands-fed (suc k) (λ a h. (stands-exactly l a).1 (r.fed a h)),
+          ⊎_elim (λ e. absurd (r.new ((stands_exactly l (suc k)).0 e))) (λ e. e) (true_or_false (stands l (suc k))),
+          stands-fed (suc k) (λ a h. (stands_exactly l a).1 (r.fed a h)),
         ),
   )

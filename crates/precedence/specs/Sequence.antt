@@ -8,24 +8,24 @@ stands [] t = false
 stands (x ∷ xs) t = eqb x t || stands xs t
 
 -- task k + 1 feeds t and does not yet stand
-unfoldable pub holdsUp : (ℕ → ℕ → Bool) → (ℕ → Bool) → ℕ → ℕ → Bool
-holdsUp f placed t k = f (suc k) t && not (placed (suc k))
+unfoldable pub holds_up : (ℕ → ℕ → Bool) → (ℕ → Bool) → ℕ → ℕ → Bool
+holds_up f placed t k = f (suc k) t && not (placed (suc k))
 
 -- some task of 1 to n feeds t and does not yet stand
 unfoldable pub waits : (ℕ → ℕ → Bool) → ℕ → (ℕ → Bool) → ℕ → Bool
-waits f n placed t = not (eqb (first (holdsUp f placed t) n) 0)
+waits f n placed t = not (eqb (first (holds_up f placed t) n) 0)
 
 -- task k + 1 does not yet stand, and all that feed it do
-unfoldable pub isReady : (ℕ → ℕ → Bool) → ℕ → (ℕ → Bool) → ℕ → Bool
-isReady f n placed k = not (placed (suc k)) && not (waits f n placed (suc k))
+unfoldable pub is_ready : (ℕ → ℕ → Bool) → ℕ → (ℕ → Bool) → ℕ → Bool
+is_ready f n placed k = not (placed (suc k)) && not (waits f n placed (suc k))
 
 -- the lowest ready task; 0 if there is none
-unfoldable pub nextTask : (ℕ → ℕ → Bool) → ℕ → (ℕ → Bool) → ℕ
-nextTask f n placed = first (isReady f n placed) n
+unfoldable pub next_task : (ℕ → ℕ → Bool) → ℕ → (ℕ → Bool) → ℕ
+next_task f n placed = first (is_ready f n placed) n
 
 -- the list with the next task behind it
 unfoldable pub with_next : (ℕ → ℕ → Bool) → ℕ → List ℕ → List ℕ
-with_next f n placed = placed ++ (nextTask f n (stands placed) ∷ [])
+with_next f n placed = placed ++ (next_task f n (stands placed) ∷ [])
 
 -- the first i tasks of the order
 unfoldable pub ordered : (ℕ → ℕ → Bool) → ℕ → ℕ → List ℕ

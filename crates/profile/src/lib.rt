@@ -2,8 +2,8 @@
 ghost use Rattle.std.specs.Prelude.{◌≡◌, ◌↔◌, ◌≢◌, ◌≤◌};
 ghost use Rattle.std.specs.Int.{◌∣◌};
 ghost use Rattle.numbers.specs.First.{first};
-ghost use Rattle.profile.specs.Periods.{busPlace};
-ghost use Rattle.profile.specs.Tests.{unlisted, listTest};
+ghost use Rattle.profile.specs.Periods.{bus_place};
+ghost use Rattle.profile.specs.Tests.{unlisted, list_test};
 
 use fields::Fields;
 use refusal::{Cause, Outcome};
@@ -16,7 +16,7 @@ const BUS_PERIODS: [u32; 25] = [
 
 // The place of a period in the list, from 1; 0 where it is not there.
 pub fn bus_place(period: u32) -> usize
-    ensures answer { result ≡ busPlace period }
+    ensures answer { result ≡ bus_place period }
     ensures divides { 1 ≤ period → (result ≢ 0) ↔ (period ∣ 10000) }
 {
     let mut i = 0;
@@ -47,7 +47,7 @@ fn first_unlisted(f: Fields) -> usize
 // Number 22.
 pub fn list_test(f: Fields) -> Outcome
     requires { f.n ≤ 16 }
-    ensures { result ≡ listTest f }
+    ensures { result ≡ list_test f }
 {
     let task = first_unlisted(f);
     refusal::refuse_if(task != 0, Cause::BusPeriod(task))

@@ -5,19 +5,19 @@ use Rattle.refusal.specs.Causes.{number_in}
 use Rattle.fields.specs.declared.Fields.{Fields}
 use Rattle.taskset.specs.Table.{Table}
 use Rattle.allocation.specs.FirstFit.{OnLowest}
-use Rattle.allocation.specs.TableOrder.{inPlanningOrder}
-use Rattle.planning.specs.Problem.{tableProblem, order_of}
+use Rattle.allocation.specs.TableOrder.{in_planning_order}
+use Rattle.planning.specs.Problem.{table_problem, order_of}
 use Rattle.planner.specs.Plan.{plan_of}
-use Rattle.plans.specs.Safe.{choicesOf, Safe, StatedOrder}
+use Rattle.plans.specs.Safe.{choices_of, Safe, StatedOrder}
 use Rattle.planner.specs.declared.Verdict.TheVariants.{All, Spent}
 use Rattle.quick.specs.declared.QuickPlan.{QuickPlan}
 
 pub record Lowest (f : Fields) (r : QuickPlan) : Type 0 where
   -- In planning order each task is on the lowest core that has room for it beside those before it, and left out exactly if none has.
-  pub each : (k : ℕ) → k < f.n → OnLowest (inPlanningOrder (tableProblem f) (order_of f)) (gather (order_of f) (choicesOf f r.placement)) k
+  pub each : (k : ℕ) → k < f.n → OnLowest (in_planning_order (table_problem f) (order_of f)) (gather (order_of f) (choices_of f r.placement)) k
   -- No other placement of the n tasks is so.
   pub only : (other : List ℕ) → length other ≡ f.n
-      → ((k : ℕ) → k < f.n → OnLowest (inPlanningOrder (tableProblem f) (order_of f)) (gather (order_of f) other) k) → other ≡ choicesOf f r.placement
+      → ((k : ℕ) → k < f.n → OnLowest (in_planning_order (table_problem f) (order_of f)) (gather (order_of f) other) k) → other ≡ choices_of f r.placement
   -- That order takes the tasks by falling demand, equal demands by shorter period, then by lower number; each task once.
   pub ordered : StatedOrder f
 

@@ -3,7 +3,7 @@ ghost use Rattle.std.specs.Prelude.{◌≡◌};
 ghost use Rattle.taskset.specs.Promise.{Checked, Reads};
 ghost use Rattle.taskset.specs.Table.{Decided};
 ghost use Rattle.oldform.specs.Limits.{beside};
-ghost use Rattle.quick.specs.Quick.{quickFor, refusedQuick, quickBy, quickOf};
+ghost use Rattle.quick.specs.Quick.{quick_for, refused_quick, quick_by, quick_of};
 ghost use Rattle.quick.specs.Promise.{Fits};
 
 use refusal::{Cause, Outcome};
@@ -19,7 +19,7 @@ pub struct QuickPlan {
 
 // A refused quick plan: zeros beside the cause.
 fn refused(cause: Cause) -> QuickPlan
-    ensures { result ≡ refusedQuick cause }
+    ensures { result ≡ refused_quick cause }
 {
     QuickPlan {
         outcome: Outcome::Refused(cause),
@@ -31,7 +31,7 @@ fn refused(cause: Cause) -> QuickPlan
 // The quick plan of a checked task set.
 pub fn quick_tasks(t: TaskSet) -> QuickPlan
     requires { Checked t }
-    ensures { result ≡ quickFor t.fields }
+    ensures { result ≡ quick_for t.fields }
 {
     let n = t.fields.n;
     let order = ordering::planning_order(t);
@@ -51,7 +51,7 @@ pub fn quick_tasks(t: TaskSet) -> QuickPlan
 // The quick plan of a table that was read, whatever its stored form; a refused one has none.
 pub fn quick_read(reading: Reading) -> QuickPlan
     requires { Reads reading }
-    ensures { result ≡ quickBy reading.outcome reading.tasks.fields }
+    ensures { result ≡ quick_by reading.outcome reading.tasks.fields }
 {
     let outcome = reading.outcome;
     match outcome {
@@ -63,7 +63,7 @@ pub fn quick_read(reading: Reading) -> QuickPlan
 // The quick plan of a stored table on a board with this charge: each task, in planning order, on the lowest core that its core byte
 // permits and where it still fits, or left out.
 pub fn quick_plan(table: &[u8], charge: u32, affinity: &[u8]) -> QuickPlan
-    ensures answer { result ≡ quickOf (beside table.now charge affinity.now) }
+    ensures answer { result ≡ quick_of (beside table.now charge affinity.now) }
     ensures decides { Decided (beside table.now charge affinity.now) result.outcome }
     ensures fits { Fits (beside table.now charge affinity.now) result }
 {

@@ -2,7 +2,7 @@
 ghost use Rattle.std.specs.Prelude.{◌≡◌, ◌≤◌};
 ghost use Rattle.newform.specs.Limits.{new};
 ghost use Rattle.text.specs.Shown.{shown, Appended};
-ghost use Rattle.quickreport.specs.Output.{quickSummary, quickLines, quickOutputOf, Reported, QuickReadBack};
+ghost use Rattle.quickreport.specs.Output.{quick_summary, quick_lines, quick_output_of, Reported, QuickReadBack};
 
 use quick::QuickPlan;
 use refusal::Outcome;
@@ -11,7 +11,7 @@ use text::Text;
 
 // Last line: the rejected demand.
 fn append_summary(t: Text, plan: QuickPlan) -> Text
-    ensures { Appended t (quickSummary plan) 27 result }
+    ensures { Appended t (quick_summary plan) 27 result }
 {
     let word = text::append_bytes(t, b"quick");
     let rejected = decimal::append_field(word, plan.rejected as u64);
@@ -21,7 +21,7 @@ fn append_summary(t: Text, plan: QuickPlan) -> Text
 // The output for a quick plan.
 fn plan_report(t: TaskSet, plan: QuickPlan) -> Text
     requires { t.fields.n ≤ 16 }
-    ensures { shown result ≡ quickLines t plan }
+    ensures { shown result ≡ quick_lines t plan }
 {
     let nothing = text::empty();
     let cores = plan.placement;
@@ -31,7 +31,7 @@ fn plan_report(t: TaskSet, plan: QuickPlan) -> Text
 
 // The program's output for the bytes of a table: the quick plan, or the first refusal alone.
 pub fn report(table: &[u8]) -> Text
-    ensures answer { shown result ≡ quickOutputOf (new table.now) }
+    ensures answer { shown result ≡ quick_output_of (new table.now) }
     ensures reported { Reported (new table.now) (shown result) }
     ensures read_back { QuickReadBack (new table.now) (shown result) }
 {

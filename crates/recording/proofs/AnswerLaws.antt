@@ -10,68 +10,68 @@ use lib.ListN.{length, drop, drop_of_length-le}
 use lib.Seq.{drop-cons}
 use Rattle.numbers.specs.First.{first}
 use Rattle.numbers.specs.Rows.{entry}
-use Rattle.numbers.proofs.FirstLaws.{Seeking, seek-start, seek-none, looked-on, looked-found, first-zero}
-use Rattle.refusal.specs.Tests.{◌then◌, refuseIf, refuseAt, roomTest, byOutcome}
+use Rattle.numbers.proofs.FirstLaws.{Seeking, seek_start, seek_none, looked_on, looked_found, first_zero}
+use Rattle.refusal.specs.Tests.{◌then◌, refuse_if, refuse_at, room_test, by_outcome}
 use Rattle.refusal.specs.declared.Cause.{Cause}
 use Rattle.refusal.specs.declared.Cause.TheVariants.{Answer, LogRoom}
 use Rattle.refusal.specs.declared.Outcome.{Outcome}
 use Rattle.refusal.specs.declared.Outcome.TheVariants.{Accepted, Refused}
-use Rattle.refusal.proofs.TestLaws.{then-first, then-refused, refuse-at-by}
+use Rattle.refusal.proofs.TestLaws.{then_first, then_refused, refuse_at_by}
 use Rattle.runs.specs.declared.Logged.{Logged}
 use Rattle.runs.specs.Runs.{runs}
-use Rattle.runs.specs.Lent.{loggedBy}
+use Rattle.runs.specs.Lent.{logged_by}
 use Rattle.runs.specs.Log.{changes, needed}
 use Rattle.runs.proofs.LogLaws.{runs-needed}
-use Rattle.recording.specs.Tests.{aboveAt, answersTest, writeOutcome, writeAnswer, Surveyed}
+use Rattle.recording.specs.Tests.{above_at, answers_test, write_outcome, write_answer, Surveyed}
 
 -- ---- the pass: before answer k none is above 16, `n` records have begun, and the last is of the task `before`
 
 pub record Surveying (xs : List ℕ) (n before k : ℕ) : Type 0 where
   pub top : k ≤ length xs
   pub few : n ≤ k
-  seeks : Seeking (aboveAt xs) (length xs) k
+  seeks : Seeking (above_at xs) (length xs) k
   counts : n + changes before (drop k xs) ≡ changes 17 xs
 
-pub survey-start : (xs : List ℕ) → Surveying xs 0 17 0
-survey-start xs = record { top = omega arith; few = omega arith; seeks = seek-start (aboveAt xs) (length xs); counts = omega arith }
+pub survey_start : (xs : List ℕ) → Surveying xs 0 17 0
+survey_start xs = record { top = omega arith; few = omega arith; seeks = seek_start (above_at xs) (length xs); counts = omega arith }
 
 module _ {xs : List ℕ} {n before k : ℕ} (s : Surveying xs n before k) where
-  pub survey-above : k < length xs → 16 < entry xs k → Surveyed xs (k + 1) 0
-  unfolding aboveAt
-  survey-above h g = (looked-found s.seeks h (sym (lt-ltb 16 (entry xs k) g)) refl, λ (z : k + 1 ≡ 0). absurd (omega (arith, z)))
+  pub survey_above : k < length xs → 16 < entry xs k → Surveyed xs (k + 1) 0
+  unfolding above_at
+  survey_above h g = (looked_found s.seeks h (sym (lt-ltb 16 (entry xs k) g)) refl, λ (z : k + 1 ≡ 0). absurd (omega (arith, z)))
 
-  seeks-on : k < length xs → entry xs k ≤ 16 → Seeking (aboveAt xs) (length xs) (k + 1)
-  unfolding aboveAt
-  seeks-on h g = looked-on s.seeks h (sym (le-ltb 16 (entry xs k) g)) refl
+  seeks_on : k < length xs → entry xs k ≤ 16 → Seeking (above_at xs) (length xs) (k + 1)
+  unfolding above_at
+  seeks_on h g = looked_on s.seeks h (sym (le-ltb 16 (entry xs k) g)) refl
 
   left : k < length xs → n + changes before (entry xs k ∷ drop (suc k) xs) ≡ changes 17 xs
   left h = ap (λ (l : List ℕ). n + changes before l) (sym (drop-cons xs k 0 h)) ∙ s.counts
 
-  pub survey-other : k < length xs → entry xs k ≤ 16 → (entry xs k ≡ before → ⊥) → Surveying xs (n + 1) (entry xs k) (k + 1)
-  survey-other h g d =
+  pub survey_other : k < length xs → entry xs k ≤ 16 → (entry xs k ≡ before → ⊥) → Surveying xs (n + 1) (entry xs k) (k + 1)
+  survey_other h g d =
       let one : k + 1 ≡ suc k = omega arith in
       let more : n + suc (changes (entry xs k) (drop (suc k) xs)) ≡ changes 17 xs = rw (ne_eqb before (entry xs k) (λ (e : before ≡ entry xs k). d (sym e))) at (left h) in
       let m = s.few in
-      record { top = omega (arith, h); few = omega (arith, m); seeks = seeks-on h g; counts = rw one (omega (arith, more)) }
+      record { top = omega (arith, h); few = omega (arith, m); seeks = seeks_on h g; counts = rw one (omega (arith, more)) }
 
-  pub survey-same : k < length xs → entry xs k ≤ 16 → entry xs k ≡ before → Surveying xs n (entry xs k) (k + 1)
-  survey-same h g d =
+  pub survey_same : k < length xs → entry xs k ≤ 16 → entry xs k ≡ before → Surveying xs n (entry xs k) (k + 1)
+  survey_same h g d =
       let one : k + 1 ≡ suc k = omega arith in
       let more : n + changes (entry xs k) (drop (suc k) xs) ≡ changes 17 xs = rw (eq-eqb before (entry xs k) (sym d)) at (left h) in
       let m = s.few in
-      record { top = omega (arith, h); few = omega (arith, m); seeks = seeks-on h g; counts = rw one more }
+      record { top = omega (arith, h); few = omega (arith, m); seeks = seeks_on h g; counts = rw one more }
 
 -- where none is above 16 the first answer begins a record
-begins : (xs : List ℕ) → 0 ≡ first (aboveAt xs) (length xs) → changes 17 xs ≡ needed xs
-unfolding aboveAt
+begins : (xs : List ℕ) → 0 ≡ first (above_at xs) (length xs) → changes 17 xs ≡ needed xs
+unfolding above_at
 begins [] z = refl
 begins (b ∷ xs) z =
-    let low = ltb-false 16 b (first-zero (aboveAt (b ∷ xs)) (length (b ∷ xs)) (sym z) 0 (omega arith)) in
+    let low = ltb-false 16 b (first_zero (above_at (b ∷ xs)) (length (b ∷ xs)) (sym z) 0 (omega arith)) in
     rw (ne_eqb 17 b (λ (e : 17 ≡ b). omega (arith, e, low)))
 
-pub survey-done : {xs : List ℕ} {n before k : ℕ} → Surveying xs n before k → length xs ≤ k → Surveyed xs 0 n
-survey-done {xs} {n} {before} {k} s h =
-    let none = seek-none s.seeks h in
+pub survey_done : {xs : List ℕ} {n before k : ℕ} → Surveying xs n before k → length xs ≤ k → Surveyed xs 0 n
+survey_done {xs} {n} {before} {k} s h =
+    let none = seek_none s.seeks h in
     let all : n + 0 ≡ changes 17 xs = ap (λ (l : List ℕ). n + changes before l) (sym (drop_of_length-le xs h)) ∙ s.counts in
     let b = begins xs none in
     let m = runs-needed xs in
@@ -81,27 +81,27 @@ survey-done {xs} {n} {before} {k} s h =
 
 module _ (xs : List ℕ) (room : ℕ) where
   -- too many answers: nothing else is looked at
-  pub write-long : {o : Outcome} {c : Cause} {r : Logged} → o ≡ refuseIf (ltb 60000 (length xs)) (Answer 0) → o ≡ Refused c → r ≡ loggedBy o 0 → r ≡ writeAnswer xs room
-  unfolding writeAnswer writeOutcome answersTest loggedBy byOutcome
-  write-long {c = c} e f g =
-      let first-test : refuseIf (ltb 60000 (length xs)) (Answer 0) ≡ Refused c = sym e ∙ f in
-      g ∙ ap (λ p. loggedBy p 0) f ∙ ap (λ p. loggedBy p (length (runs xs))) (sym (ap (λ p. p then roomTest LogRoom (length (runs xs)) room) (then-refused _ _ c first-test) ∙ then-refused _ _ c refl))
+  pub write_long : {o : Outcome} {c : Cause} {r : Logged} → o ≡ refuse_if (ltb 60000 (length xs)) (Answer 0) → o ≡ Refused c → r ≡ logged_by o 0 → r ≡ write_answer xs room
+  unfolding write_answer write_outcome answers_test logged_by by_outcome
+  write_long {c = c} e f g =
+      let first-test : refuse_if (ltb 60000 (length xs)) (Answer 0) ≡ Refused c = sym e ∙ f in
+      g ∙ ap (λ p. logged_by p 0) f ∙ ap (λ p. logged_by p (length (runs xs))) (sym (ap (λ p. p then room_test LogRoom (length (runs xs)) room) (then_refused _ _ c first-test) ∙ then_refused _ _ c refl))
 
   -- an answer above 16 is refused whatever was counted, and else the room decides
-  found_alike : (k n m : ℕ) (o p : Outcome) → loggedBy (refuseAt (suc k) Answer then o) n ≡ loggedBy (refuseAt (suc k) Answer then p) m
-  unfolding loggedBy byOutcome ◌then◌ refuseAt
+  found_alike : (k n m : ℕ) (o p : Outcome) → logged_by (refuse_at (suc k) Answer then o) n ≡ logged_by (refuse_at (suc k) Answer then p) m
+  unfolding logged_by by_outcome ◌then◌ refuse_at
   found_alike k n m o p = refl
 
-  both : (k n : ℕ) → k ≡ first (aboveAt xs) (length xs) → (k ≡ 0 → n ≡ length (runs xs))
-      → loggedBy (refuseAt k Answer then roomTest LogRoom n room) n ≡ loggedBy (refuseAt k Answer then roomTest LogRoom (length (runs xs)) room) (length (runs xs))
-  both zero n e h = ap (λ m. loggedBy (refuseAt 0 Answer then roomTest LogRoom m room) m) (h refl)
+  both : (k n : ℕ) → k ≡ first (above_at xs) (length xs) → (k ≡ 0 → n ≡ length (runs xs))
+      → logged_by (refuse_at k Answer then room_test LogRoom n room) n ≡ logged_by (refuse_at k Answer then room_test LogRoom (length (runs xs)) room) (length (runs xs))
+  both zero n e h = ap (λ m. logged_by (refuse_at 0 Answer then room_test LogRoom m room) m) (h refl)
   both (suc k) n e h = found_alike k _ _ _ _
 
-  pub write-found : {o t u p : Outcome} {k n : ℕ} {r : Logged} → o ≡ refuseIf (ltb 60000 (length xs)) (Answer 0) → o ≡ Accepted → Surveyed xs k n
-      → t ≡ refuseIf (not (eqb k 0)) (Answer k) → u ≡ roomTest LogRoom n room → p ≡ t then u → r ≡ loggedBy p n → r ≡ writeAnswer xs room
-  unfolding writeAnswer writeOutcome answersTest
-  write-found {u = u} {k = k} {n} e f found t-is u-is p-is r-is =
-      r-is ∙ ap (λ q. loggedBy q n) (p-is ∙ ap (λ q. q then u) (refuse-at-by Answer t-is refl) ∙ ap (λ q. refuseAt k Answer then q) u-is)
+  pub write_found : {o t u p : Outcome} {k n : ℕ} {r : Logged} → o ≡ refuse_if (ltb 60000 (length xs)) (Answer 0) → o ≡ Accepted → Surveyed xs k n
+      → t ≡ refuse_if (not (eqb k 0)) (Answer k) → u ≡ room_test LogRoom n room → p ≡ t then u → r ≡ logged_by p n → r ≡ write_answer xs room
+  unfolding write_answer write_outcome answers_test
+  write_found {u = u} {k = k} {n} e f found t-is u-is p-is r-is =
+      r-is ∙ ap (λ q. logged_by q n) (p-is ∙ ap (λ q. q then u) (refuse_at_by Answer t-is refl) ∙ ap (λ q. refuse_at k Answer then q) u-is)
       ∙ both k n found.0 found.1
-      ∙ ap (λ j. loggedBy (refuseAt j Answer then roomTest LogRoom (length (runs xs)) room) (length (runs xs))) found.0
-      ∙ ap (λ q. loggedBy (q then roomTest LogRoom (length (runs xs)) room) (length (runs xs))) (sym (then-first _ _ (sym e ∙ f)))
+      ∙ ap (λ j. logged_by (refuse_at j Answer then room_test LogRoom (length (runs xs)) room) (length (runs xs))) found.0
+      ∙ ap (λ q. logged_by (q then room_test LogRoom (length (runs xs)) room) (length (runs xs))) (sym (then_first _ _ (sym e ∙ f)))

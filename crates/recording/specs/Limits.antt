@@ -1,7 +1,7 @@
 -- The refusals of writing a log, as plain statements in the order of their tests.
 use Rattle.std.specs.Prelude.{ℕ, ◌≤◌, ◌<◌, List, [], ◌∷◌, length}
 use Rattle.numbers.specs.Rows.{entry}
-use Rattle.refusal.specs.Conditions.{Condition, only, at, noRoom}
+use Rattle.refusal.specs.Conditions.{Condition, only, at, no_room}
 use Rattle.runs.specs.Log.{needed}
 
 -- The answers can be written into so many records: at most 60,000, none above 16, and no more records needed than there are.
@@ -11,9 +11,9 @@ pub record Writable (answers : List ℕ) (room : ℕ) : Type 0 where
   pub fits : needed answers ≤ room
 
 -- 23 for over 60,000 answers, or else for the first above 16; then 24 for fewer records than needed
-abbrev pub writeConditions : List ℕ → ℕ → List Condition
-writeConditions answers room =
+abbrev pub write_conditions : List ℕ → ℕ → List Condition
+write_conditions answers room =
     only 23 (60000 < length answers)
     ∷ at 23 (λ k. 16 < entry answers k) (length answers)
-    ∷ noRoom 24 (needed answers) room
+    ∷ no_room 24 (needed answers) room
     ∷ []

@@ -2,34 +2,34 @@
 use Rattle.std.specs.Prelude.{ℕ, ◌≡◌, Bool, List, ltb, length}
 use Rattle.numbers.specs.First.{first}
 use Rattle.numbers.specs.Rows.{entry}
-use Rattle.refusal.specs.Tests.{◌then◌, refuseIf, refuseAt, roomTest}
+use Rattle.refusal.specs.Tests.{◌then◌, refuse_if, refuse_at, room_test}
 use Rattle.refusal.specs.declared.Cause.TheVariants.{Answer, LogRoom}
 use Rattle.refusal.specs.declared.Outcome.{Outcome}
 use Rattle.runs.specs.declared.Run.{Run}
 use Rattle.runs.specs.declared.Logged.{Logged}
 use Rattle.runs.specs.Runs.{runs}
-use Rattle.runs.specs.Lent.{loggedBy, exitBy}
+use Rattle.runs.specs.Lent.{logged_by, exit_by}
 
 -- an answer that is above 16
-unfoldable pub aboveAt : List ℕ → ℕ → Bool
-aboveAt answers k = ltb 16 (entry answers k)
+unfoldable pub above_at : List ℕ → ℕ → Bool
+above_at answers k = ltb 16 (entry answers k)
 
 -- number 23: there are over 60,000 answers, or else one is above 16
-unfoldable pub answersTest : List ℕ → Outcome
-answersTest answers = refuseIf (ltb 60000 (length answers)) (Answer 0) then refuseAt (first (aboveAt answers) (length answers)) Answer
+unfoldable pub answers_test : List ℕ → Outcome
+answers_test answers = refuse_if (ltb 60000 (length answers)) (Answer 0) then refuse_at (first (above_at answers) (length answers)) Answer
 
 -- number 24, next: the row has fewer records than needed
-unfoldable pub writeOutcome : List ℕ → ℕ → Outcome
-writeOutcome answers room = answersTest answers then roomTest LogRoom (length (runs answers)) room
+unfoldable pub write_outcome : List ℕ → ℕ → Outcome
+write_outcome answers room = answers_test answers then room_test LogRoom (length (runs answers)) room
 
 -- the answer: how many records were needed, or 0 beside a refusal
-unfoldable pub writeAnswer : List ℕ → ℕ → Logged
-writeAnswer answers room = loggedBy (writeOutcome answers room) (length (runs answers))
+unfoldable pub write_answer : List ℕ → ℕ → Logged
+write_answer answers room = logged_by (write_outcome answers room) (length (runs answers))
 
 -- every record of the row at exit: the log in front of what stands behind it, or all as it was
-unfoldable pub logAfter : List ℕ → List Run → List Run
-logAfter answers records = exitBy records (writeOutcome answers (length records)) (runs answers)
+unfoldable pub log_after : List ℕ → List Run → List Run
+log_after answers records = exit_by records (write_outcome answers (length records)) (runs answers)
 
 -- what one pass over the answers finds: the first above 16, or 0 and how many records are needed
 abbrev pub Surveyed : List ℕ → ℕ → ℕ → Type 0
-Surveyed answers above needed = (above ≡ first (aboveAt answers) (length answers)) × (above ≡ 0 → needed ≡ length (runs answers))
+Surveyed answers above needed = (above ≡ first (above_at answers) (length answers)) × (above ≡ 0 → needed ≡ length (runs answers))

@@ -1,7 +1,7 @@
 // Writing a run log: the tests of the answers and of the row, the end of each run, and the record that it makes.
 ghost use Rattle.std.specs.Prelude.{◌≡◌, ◌<◌, ◌≤◌, ◌+◌, length, drop, get_or};
 ghost use Rattle.runs.specs.Runs.{lead};
-ghost use Rattle.recording.specs.Tests.{Surveyed, writeAnswer};
+ghost use Rattle.recording.specs.Tests.{Surveyed, write_answer};
 
 use refusal::{Cause, Outcome};
 use runs::{Logged, Run};
@@ -61,7 +61,7 @@ pub fn run_end(answers: &[u8], at: usize) -> usize
 
 // The answer for a row of `room` records: number 23 for too many answers, or else for one above 16, then 24, or how many records are needed.
 pub fn write_answer(answers: &[u8], room: usize) -> Logged
-    ensures { result ≡ writeAnswer answers.now room }
+    ensures { result ≡ write_answer answers.now room }
 {
     let long = refusal::refuse_if(MOST < answers.len(), Cause::Answer(0));
     match long {

@@ -6,35 +6,35 @@ use mathlib.Core.Bool.{Bool, true, true≢false}
 use mathlib.Core.Logic.{◌⊎◌, inl, inr, ⊎_elim, ⊎_map, ◌↔◌}
 use native.Mathlib.Omega.{arith}
 use Rattle.numbers.specs.First.{first}
-use Rattle.numbers.proofs.BoundLaws.{less-exactly, not-less}
-use Rattle.numbers.proofs.FirstLaws.{first-is, first-zero, isFirst-unique, isFirst-map}
+use Rattle.numbers.proofs.BoundLaws.{less_exactly, not_less}
+use Rattle.numbers.proofs.FirstLaws.{first_is, first_zero, is_first_unique, is_first_map}
 use Rattle.refusal.specs.Causes.{number_of, place_of, number_in, place_in}
-use Rattle.refusal.specs.Tests.{◌then◌, refuseIf, refuseAt, roomTest}
-use Rattle.refusal.specs.Conditions.{Condition, only, at, numbered, HoldsAt, Fails, None, First, Gives, Decides, Reports, Tested, noRoom}
+use Rattle.refusal.specs.Tests.{◌then◌, refuse_if, refuse_at, room_test}
+use Rattle.refusal.specs.Conditions.{Condition, only, at, numbered, HoldsAt, Fails, None, First, Gives, Decides, Reports, Tested, no_room}
 use Rattle.refusal.specs.declared.Cause.{Cause}
 use Rattle.refusal.specs.declared.Outcome.{Outcome}
 use Rattle.refusal.specs.declared.Outcome.TheVariants.{Accepted, Refused}
-use Rattle.refusal.proofs.CauseLaws.{number-range}
-use Rattle.refusal.proofs.TestLaws.{accepted≢refused, outcome-cases, then-accepted, then-cases, refuseIf-accepted, refuseIf-refused, refuseAt-accepted, refuseAt-refused}
+use Rattle.refusal.proofs.CauseLaws.{number_range}
+use Rattle.refusal.proofs.TestLaws.{accepted≢refused, outcome_cases, then_accepted, then_cases, refuse_if_accepted, refuse_if_refused, refuse_at_accepted, refuse_at_refused}
 
 -- ---- the first condition that holds
 
-place-unique : (c : Condition) {p q : ℕ} → HoldsAt c p → HoldsAt c q → p ≡ q
-place-unique (only number P) a b = a.1 ∙ sym b.1
-place-unique (at number P n) a b = a.1 ∙ ap suc (isFirst-unique a.2 b.2) ∙ sym b.1
+place_unique : (c : Condition) {p q : ℕ} → HoldsAt c p → HoldsAt c q → p ≡ q
+place_unique (only number P) a b = a.1 ∙ sym b.1
+place_unique (at number P n) a b = a.1 ∙ ap suc (is_first_unique a.2 b.2) ∙ sym b.1
 
-fails-nowhere : (c : Condition) (p : ℕ) → Fails c → HoldsAt c p → ⊥
-fails-nowhere (only number P) p f h = f h.0
-fails-nowhere (at number P n) p f h = f h.0 h.2.below h.2.here
+fails_nowhere : (c : Condition) (p : ℕ) → Fails c → HoldsAt c p → ⊥
+fails_nowhere (only number P) p f h = f h.0
+fails_nowhere (at number P n) p f h = f h.0 h.2.below h.2.here
 
-first-unique : (cs : List Condition) {k l p q : ℕ} → First cs k p → First cs l q → (k ≡ l) × (p ≡ q)
-first-unique (c ∷ cs) (inl a) (inl b) = (a.0 ∙ sym b.0, place-unique c a.1 b.1)
-first-unique (c ∷ cs) {p = p} (inl a) (inr b) = absurd (fails-nowhere c p b.0 a.1)
-first-unique (c ∷ cs) {q = q} (inr a) (inl b) = absurd (fails-nowhere c q a.0 b.1)
-first-unique (c ∷ cs) (inr a) (inr b) = first-unique cs a.1 b.1
+first_unique : (cs : List Condition) {k l p q : ℕ} → First cs k p → First cs l q → (k ≡ l) × (p ≡ q)
+first_unique (c ∷ cs) (inl a) (inl b) = (a.0 ∙ sym b.0, place_unique c a.1 b.1)
+first_unique (c ∷ cs) {p = p} (inl a) (inr b) = absurd (fails_nowhere c p b.0 a.1)
+first_unique (c ∷ cs) {q = q} (inr a) (inl b) = absurd (fails_nowhere c q a.0 b.1)
+first_unique (c ∷ cs) (inr a) (inr b) = first_unique cs a.1 b.1
 
 pub none_first : (cs : List Condition) (k p : ℕ) → None cs → First cs k p → ⊥
-none_first (c ∷ cs) k p n (inl a) = fails-nowhere c p n.0 a.1
+none_first (c ∷ cs) k p n (inl a) = fails_nowhere c p n.0 a.1
 none_first (c ∷ cs) k p n (inr a) = none_first cs k p n.1 a.1
 
 -- a list after another
@@ -69,55 +69,55 @@ abbrev pub Numbers : (ℕ → Type 0) → List Condition → Type 0
 Numbers P [] = Unit {0}
 Numbers P (c ∷ cs) = P (numbered c) × Numbers P cs
 
-pub first-number : (P : ℕ → Type 0) (cs : List Condition) → Numbers P cs → (k p : ℕ) → First cs k p → P k
-first-number P (c ∷ cs) h k p (inl a) = rw a.0 h.0
-first-number P (c ∷ cs) h k p (inr a) = first-number P cs h.1 k p a.1
+pub first_number : (P : ℕ → Type 0) (cs : List Condition) → Numbers P cs → (k p : ℕ) → First cs k p → P k
+first_number P (c ∷ cs) h k p (inl a) = rw a.0 h.0
+first_number P (c ∷ cs) h k p (inr a) = first_number P cs h.1 k p a.1
 
 -- a condition that does not hold where those before it do not can be left out of a list
 module _ (c : Condition) (ds : List Condition) where
-  none-without : (cs : List Condition) → (None cs → Fails c) → None (cs ++ c ∷ ds) ↔ None (cs ++ ds)
-  none-without cs f = (
+  none_without : (cs : List Condition) → (None cs → Fails c) → None (cs ++ c ∷ ds) ↔ None (cs ++ ds)
+  none_without cs f = (
     λ n. let r = (none-append cs (c ∷ ds)).0 n in (none-append cs ds).1 (r.0, r.1.1),
     λ n. let r = (none-append cs ds).0 n in (none-append cs (c ∷ ds)).1 (r.0, (f r.0, r.1)),
   )
 
-  first-without : (cs : List Condition) → (None cs → Fails c) → (k p : ℕ) → First (cs ++ c ∷ ds) k p → First (cs ++ ds) k p
-  first-without [] f k p (inl a) = absurd (fails-nowhere c p (f tt) a.1)
-  first-without [] f k p (inr a) = a.1
-  first-without (b ∷ cs) f k p (inl a) = inl a
-  first-without (b ∷ cs) f k p (inr a) = inr (a.0, first-without cs (λ n. f (a.0, n)) k p a.1)
+  first_without : (cs : List Condition) → (None cs → Fails c) → (k p : ℕ) → First (cs ++ c ∷ ds) k p → First (cs ++ ds) k p
+  first_without [] f k p (inl a) = absurd (fails_nowhere c p (f tt) a.1)
+  first_without [] f k p (inr a) = a.1
+  first_without (b ∷ cs) f k p (inl a) = inl a
+  first_without (b ∷ cs) f k p (inr a) = inr (a.0, first_without cs (λ n. f (a.0, n)) k p a.1)
 
 -- ---- what an outcome reports of a list of conditions
 
 -- one call's tests after another's; the second may take for granted that no condition of the first holds
-pub then-reports : (cs ds : List Condition) {o p : Outcome} → Reports cs o → (None cs → Reports ds p) → Reports (cs ++ ds) (o then p)
-then-reports cs ds {o} {p} a b = record {
-  accepted = λ e. let r = then-accepted o p e in let n = a.accepted r.0 in (none-append cs ds).1 (n, (b n).accepted r.1);
+pub then_reports : (cs ds : List Condition) {o p : Outcome} → Reports cs o → (None cs → Reports ds p) → Reports (cs ++ ds) (o then p)
+then_reports cs ds {o} {p} a b = record {
+  accepted = λ e. let r = then_accepted o p e in let n = a.accepted r.0 in (none-append cs ds).1 (n, (b n).accepted r.1);
   refused = λ c e.
       ⊎_elim
       (λ q. first-front cs ds _ _ (a.refused c q))
       (λ q. let n = a.accepted q.0 in first-behind cs ds _ _ n ((b n).refused c q.1))
-      (then-cases o p c e);
+      (then_cases o p c e);
 }
 
 -- a test that computes its condition
-pub test-only : {P : Type 0} {t : Bool} (c : Cause) → place_of c ≡ 0 → (t ≡ true) ↔ P → Reports (only (number_of c) P ∷ []) (refuseIf t c)
-test-only {P} {t} c z h = record {
-  accepted = λ e. (λ x. true≢false (sym (h.1 x) ∙ refuseIf-accepted t c e), tt);
-  refused = λ d e. let r = refuseIf-refused t c d e in inl (ap number_of (sym r.1), (h.0 r.0, ap place_of (sym r.1) ∙ z));
+pub test_only : {P : Type 0} {t : Bool} (c : Cause) → place_of c ≡ 0 → (t ≡ true) ↔ P → Reports (only (number_of c) P ∷ []) (refuse_if t c)
+test_only {P} {t} c z h = record {
+  accepted = λ e. (λ x. true≢false (sym (h.1 x) ∙ refuse_if_accepted t c e), tt);
+  refused = λ d e. let r = refuse_if_refused t c d e in inl (ap number_of (sym r.1), (h.0 r.0, ap place_of (sym r.1) ∙ z));
 }
 
 -- a test that looks for the first index
 pub test_at : {P : ℕ → Type 0} {p : ℕ → Bool} {n number : ℕ} (cause : ℕ → Cause)
     → ((k : ℕ) → (number_of (cause k) ≡ number) × (place_of (cause k) ≡ k))
-    → ((k : ℕ) → (p k ≡ true) ↔ P k) → Reports (at number P n ∷ []) (refuseAt (first p n) cause)
+    → ((k : ℕ) → (p k ≡ true) ↔ P k) → Reports (at number P n ∷ []) (refuse_at (first p n) cause)
 test_at {P} {p} {n} {number} cause is h = record {
-  accepted = λ e. (λ k b x. true≢false (sym ((h k).1 x) ∙ first-zero p n (refuseAt-accepted _ cause e) k b), tt);
+  accepted = λ e. (λ k b x. true≢false (sym ((h k).1 x) ∙ first_zero p n (refuse_at_accepted _ cause e) k b), tt);
   refused = λ d e.
-      let r = refuseAt-refused (first p n) cause d e in
+      let r = refuse_at_refused (first p n) cause d e in
       inl (
         ap number_of (sym r.2) ∙ (is (suc r.0)).0,
-        (r.0, ap place_of (sym r.2) ∙ (is (suc r.0)).1, isFirst-map (λ k b. (h k).0) (λ k b. (h k).1) (first-is p n r.0 r.1)),
+        (r.0, ap place_of (sym r.2) ∙ (is (suc r.0)).1, is_first_map (λ k b. (h k).0) (λ k b. (h k).1) (first_is p n r.0 r.1)),
       );
 }
 
@@ -127,59 +127,59 @@ no_more = record { accepted = λ e. tt; refused = λ c e. absurd (accepted≢ref
 
 infixr 30 ◌and◌
 pub ◌and◌ : {c : Condition} {t o : Outcome} {cs : List Condition} → Reports (c ∷ []) t → Reports cs o → Reports (c ∷ cs) (t then o)
-◌and◌ {c} {cs = cs} a b = then-reports (c ∷ []) cs a (λ _. b)
+◌and◌ {c} {cs = cs} a b = then_reports (c ∷ []) cs a (λ _. b)
 
 -- ---- what reports its conditions decides, where none holds exactly if the call is valid
 
 -- an outcome without a number is no refusal, and one with a number is
 pub no_number : (o : Outcome) → number_in o ≡ 0 → o ≡ Accepted
 no_number Accepted z = refl
-no_number (Refused c) z = absurd (omega (arith, (number-range c).0, z))
+no_number (Refused c) z = absurd (omega (arith, (number_range c).0, z))
 
 pub some_number : (o : Outcome) → (number_in o ≡ 0 → ⊥) → (c : Cause) × (o ≡ Refused c)
 some_number Accepted n = absurd (n refl)
 some_number (Refused c) n = (c, refl)
 
-pub gives-refused : (o : Outcome) (number place : ℕ) → 1 ≤ number → Gives o number place
+pub gives_refused : (o : Outcome) (number place : ℕ) → 1 ≤ number → Gives o number place
     → (cause : Cause) × (o ≡ Refused cause) × (number_of cause ≡ number) × (place_of cause ≡ place)
-gives-refused Accepted number place h g = absurd (omega (arith, g.0))
-gives-refused (Refused cause) number place h g = (cause, refl, g.0, g.1)
+gives_refused Accepted number place h g = absurd (omega (arith, g.0))
+gives_refused (Refused cause) number place h g = (cause, refl, g.0, g.1)
 
-accepted-gives : {o : Outcome} → o ≡ Accepted → Gives o 0 0
-accepted-gives e = (ap number_in e, ap place_in e)
+accepted_gives : {o : Outcome} → o ≡ Accepted → Gives o 0 0
+accepted_gives e = (ap number_in e, ap place_in e)
 
 module _ {cs : List Condition} {o : Outcome} (r : Reports cs o) where
-  none-accepted : None cs → o ≡ Accepted
-  none-accepted n = ⊎_elim (λ e. e) (λ e. absurd (none_first cs _ _ n (r.refused e.0 e.1))) (outcome-cases o)
+  none_accepted : None cs → o ≡ Accepted
+  none_accepted n = ⊎_elim (λ e. e) (λ e. absurd (none_first cs _ _ n (r.refused e.0 e.1))) (outcome_cases o)
 
   pub first-given : {k p : ℕ} → First cs k p → Gives o k p
   first-given {k} {p} f =
       ⊎_elim
       (λ e. absurd (none_first cs k p (r.accepted e) f))
-      (λ e. let u = first-unique cs (r.refused e.0 e.1) f in (ap number_in e.1 ∙ u.0, ap place_in e.1 ∙ u.1))
-      (outcome-cases o)
+      (λ e. let u = first_unique cs (r.refused e.0 e.1) f in (ap number_in e.1 ∙ u.0, ap place_in e.1 ∙ u.1))
+      (outcome_cases o)
 
   given-first : {k p : ℕ} → 1 ≤ k → Gives o k p → First cs k p
   given-first {k} {p} h g =
       ⊎_elim
       (λ e. absurd (omega (arith, sym (ap number_in e) ∙ g.0)))
       (λ e. rw (← g.0, ← g.1, e.1) (r.refused e.0 e.1))
-      (outcome-cases o)
+      (outcome_cases o)
 
 -- Tests that report their conditions decide,
 pub decides : {Valid : Type 0} {cs : List Condition} {o : Outcome} → Tested Valid cs o → Decides Valid cs o
 decides {o = o} t = record {
   accepted = (
     λ g. t.valid.0 (t.reports.accepted (no_number o g.0)),
-    λ v. accepted-gives (none-accepted t.reports (t.valid.1 v)),
+    λ v. accepted_gives (none_accepted t.reports (t.valid.1 v)),
   );
   refused = λ k p h. (given-first t.reports h, first-given t.reports);
 }
 
 -- and those of two calls, one after the other, decide both; the second may take for granted that no condition of the first holds.
-pub join-after : {A B : Type 0} {cs ds : List Condition} {o p : Outcome} → Tested A cs o → (None cs → Tested B ds p) → Tested (A × B) (cs ++ ds) (o then p)
-join-after {cs = cs} {ds} a b = record {
-  reports = then-reports cs ds a.reports (λ n. (b n).reports);
+pub join_after : {A B : Type 0} {cs ds : List Condition} {o p : Outcome} → Tested A cs o → (None cs → Tested B ds p) → Tested (A × B) (cs ++ ds) (o then p)
+join_after {cs = cs} {ds} a b = record {
+  reports = then_reports cs ds a.reports (λ n. (b n).reports);
   valid = (
     λ n. let r = (none-append cs ds).0 n in (a.valid.0 r.0, (b r.0).valid.0 r.1),
     λ v. let n = a.valid.1 v.0 in (none-append cs ds).1 (n, (b n).valid.1 v.1),
@@ -187,41 +187,41 @@ join-after {cs = cs} {ds} a b = record {
 }
 
 pub join : {A B : Type 0} {cs ds : List Condition} {o p : Outcome} → Tested A cs o → Tested B ds p → Tested (A × B) (cs ++ ds) (o then p)
-join a b = join-after a (λ _. b)
+join a b = join_after a (λ _. b)
 
 -- A condition that never is the first to hold need not be named.
 pub unnamed : {Valid : Type 0} {o : Outcome} (cs : List Condition) (c : Condition) (ds : List Condition) → (None cs → Fails c)
     → Tested Valid (cs ++ c ∷ ds) o → Tested Valid (cs ++ ds) o
 unnamed cs c ds f t = record {
   reports = record {
-    accepted = λ e. (none-without c ds cs f).0 (t.reports.accepted e);
-    refused = λ d e. first-without c ds cs f _ _ (t.reports.refused d e);
+    accepted = λ e. (none_without c ds cs f).0 (t.reports.accepted e);
+    refused = λ d e. first_without c ds cs f _ _ (t.reports.refused d e);
   };
-  valid = (λ n. t.valid.0 ((none-without c ds cs f).1 n), λ v. (none-without c ds cs f).0 (t.valid.1 v));
+  valid = (λ n. t.valid.0 ((none_without c ds cs f).1 n), λ v. (none_without c ds cs f).0 (t.valid.1 v));
 }
 
 -- nor need several, one after another
-pub unnamed-all : {Valid : Type 0} {o : Outcome} (cs bs ds : List Condition) → (None cs → None bs)
+pub unnamed_all : {Valid : Type 0} {o : Outcome} (cs bs ds : List Condition) → (None cs → None bs)
     → Tested Valid (cs ++ (bs ++ ds)) o → Tested Valid (cs ++ ds) o
-unnamed-all cs [] ds f t = t
-unnamed-all cs (b ∷ bs) ds f t = unnamed-all cs bs ds (λ n. (f n).1) (unnamed cs b (bs ++ ds) (λ n. (f n).0) t)
+unnamed_all cs [] ds f t = t
+unnamed_all cs (b ∷ bs) ds f t = unnamed_all cs bs ds (λ n. (f n).1) (unnamed cs b (bs ++ ds) (λ n. (f n).0) t)
 
 -- what a decision says of an acceptance
 pub accepts : {Valid : Type 0} {cs : List Condition} {o : Outcome} → Decides Valid cs o → (o ≡ Accepted) ↔ Valid
-accepts {o = o} d = (λ e. d.accepted.0 (accepted-gives e), λ v. no_number o (d.accepted.1 v).0)
+accepts {o = o} d = (λ e. d.accepted.0 (accepted_gives e), λ v. no_number o (d.accepted.1 v).0)
 
 -- outcomes of the same number and place decide the same
-pub decides-same : {Valid : Type 0} {cs : List Condition} (o p : Outcome) → number_in o ≡ number_in p → place_in o ≡ place_in p → Decides Valid cs p → Decides Valid cs o
-decides-same o p a b d = record { accepted = rw (a, b) d.accepted; refused = λ k q h. rw (a, b) (d.refused k q h) }
+pub decides_same : {Valid : Type 0} {cs : List Condition} (o p : Outcome) → number_in o ≡ number_in p → place_in o ≡ place_in p → Decides Valid cs p → Decides Valid cs o
+decides_same o p a b d = record { accepted = rw (a, b) d.accepted; refused = λ k q h. rw (a, b) (d.refused k q h) }
 
 -- the same tests under limits that say the same
-pub tested-as : {A B : Type 0} {cs : List Condition} {o : Outcome} → A ↔ B → Tested A cs o → Tested B cs o
-tested-as h t = record { reports = t.reports; valid = (λ n. h.0 (t.valid.0 n), λ v. t.valid.1 (h.1 v)) }
+pub tested_as : {A B : Type 0} {cs : List Condition} {o : Outcome} → A ↔ B → Tested A cs o → Tested B cs o
+tested_as h t = record { reports = t.reports; valid = (λ n. h.0 (t.valid.0 n), λ v. t.valid.1 (h.1 v)) }
 
 -- one test, of a condition that fails exactly where a limit is kept
-pub one-tested : {A P : Type 0} {t : Bool} (c : Cause) → place_of c ≡ 0 → (t ≡ true) ↔ P → (P → ⊥) ↔ A → Tested A (only (number_of c) P ∷ []) (refuseIf t c)
-one-tested c z h k = record { reports = test-only c z h; valid = (λ n. k.0 n.0, λ a. (k.1 a, tt)) }
+pub one-tested : {A P : Type 0} {t : Bool} (c : Cause) → place_of c ≡ 0 → (t ≡ true) ↔ P → (P → ⊥) ↔ A → Tested A (only (number_of c) P ∷ []) (refuse_if t c)
+one-tested c z h k = record { reports = test_only c z h; valid = (λ n. k.0 n.0, λ a. (k.1 a, tt)) }
 
 -- the test of a lent output's room
-pub room-tested : (c : Cause) → place_of c ≡ 0 → (size room : ℕ) → Tested (size ≤ room) (noRoom (number_of c) size room ∷ []) (roomTest c size room)
-room-tested c z size room = one-tested c z (less-exactly room size) (not-less _ _, λ h g. omega arith)
+pub room_tested : (c : Cause) → place_of c ≡ 0 → (size room : ℕ) → Tested (size ≤ room) (no_room (number_of c) size room ∷ []) (room_test c size room)
+room_tested c z size room = one-tested c z (less_exactly room size) (not_less _ _, λ h g. omega arith)

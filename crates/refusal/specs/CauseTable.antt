@@ -9,8 +9,8 @@ pub data CauseRow : Type 0 where
   cause : Cause → ℕ → ℕ → CauseRow
 
 -- the table, where p is the first such task, slot, pair, answer or record; 0 where the paper names no place
-abbrev pub causeTable : ℕ → List CauseRow
-causeTable p =
+abbrev pub cause_table : ℕ → List CauseRow
+cause_table p =
     cause TooShort 1 0
     ∷ cause TaskCount 2 0
     ∷ cause CoreCount 3 0

@@ -58,5 +58,5 @@ pub record Tested (Valid : Type 0) (cs : List Condition) (o : Outcome) : Type 0 
   pub valid : None cs ↔ Valid
 
 -- A lent output is shorter than what is to stand in it.
-abbrev pub noRoom : ℕ → ℕ → ℕ → Condition
-noRoom number size room = only number (room < size)
+abbrev pub no_room : ℕ → ℕ → ℕ → Condition
+no_room number size room = only number (room < size)

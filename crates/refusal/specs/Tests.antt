@@ -11,25 +11,25 @@ Accepted then second = second
 (Refused cause) then second = Refused cause
 
 -- refused if the condition of the cause holds
-unfoldable pub refuseIf : Bool → Cause → Outcome
-refuseIf true cause = Refused cause
-refuseIf false cause = Accepted
+unfoldable pub refuse_if : Bool → Cause → Outcome
+refuse_if true cause = Refused cause
+refuse_if false cause = Accepted
 
 -- refused if a place is named: 0 names none
-unfoldable pub refuseAt : ℕ → (ℕ → Cause) → Outcome
-refuseAt zero cause = Accepted
-refuseAt (suc k) cause = Refused (cause (suc k))
+unfoldable pub refuse_at : ℕ → (ℕ → Cause) → Outcome
+refuse_at zero cause = Accepted
+refuse_at (suc k) cause = Refused (cause (suc k))
 
 -- the outcome of all tests of a list, made in order
-unfoldable pub inOrder : List Outcome → Outcome
-inOrder [] = Accepted
-inOrder (test ∷ tests) = test then inOrder tests
+unfoldable pub in_order : List Outcome → Outcome
+in_order [] = Accepted
+in_order (test ∷ tests) = test then in_order tests
 
 -- refused if a lent output has no room for what is to stand in it
-abbrev pub roomTest : Cause → ℕ → ℕ → Outcome
-roomTest cause size room = refuseIf (ltb room size) cause
+abbrev pub room_test : Cause → ℕ → ℕ → Outcome
+room_test cause size room = refuse_if (ltb room size) cause
 
 -- what a call answers, by the outcome of its tests: what it says of a refusal, or its answer to what was accepted
-unfoldable pub byOutcome : {A B : Type 0} → (Cause → A) → (B → A) → Outcome → B → A
-byOutcome refused answer (Refused cause) given = refused cause
-byOutcome refused answer Accepted given = answer given
+unfoldable pub by_outcome : {A B : Type 0} → (Cause → A) → (B → A) → Outcome → B → A
+by_outcome refused answer (Refused cause) given = refused cause
+by_outcome refused answer Accepted given = answer given

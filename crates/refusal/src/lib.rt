@@ -1,6 +1,6 @@
 // Why a call is refused, and tests made in order.
 ghost use Rattle.std.specs.Prelude.{◌≡◌};
-ghost use Rattle.refusal.specs.Tests.{◌then◌, refuseIf, roomTest};
+ghost use Rattle.refusal.specs.Tests.{◌then◌, refuse_if, room_test};
 
 // The paper's causes, with the task, slot, pair, answer or record where it names one, counted from 1.
 #[derive(Drop)]
@@ -51,7 +51,7 @@ pub fn then(first: Outcome, second: Outcome) -> Outcome
 
 // Refused if the condition of the cause holds.
 pub fn refuse_if(condition: bool, cause: Cause) -> Outcome
-    ensures { result ≡ refuseIf condition cause }
+    ensures { result ≡ refuse_if condition cause }
 {
     if condition {
         Outcome::Refused(cause)
@@ -62,7 +62,7 @@ pub fn refuse_if(condition: bool, cause: Cause) -> Outcome
 
 // Refused if a lent output of length `room` is shorter than what is to stand in it.
 pub fn room_test(cause: Cause, size: usize, room: usize) -> Outcome
-    ensures { result ≡ roomTest cause size room }
+    ensures { result ≡ room_test cause size room }
 {
     refuse_if(room < size, cause)
 }

@@ -11,9 +11,9 @@ pub record Cells (cells : List Bool) (f : ℕ → ℕ → Bool) : Type 0 where
   pub at : (a b : ℕ) → a < 17 → b < 17 → edge cells a b ≡ f a b
 
 -- the relation with one pair more
-unfoldable pub withPair : (ℕ → ℕ → Bool) → ℕ → ℕ → ℕ → ℕ → Bool
-withPair f a b x y = f x y || (eqb a x && eqb b y)
+unfoldable pub with_pair : (ℕ → ℕ → Bool) → ℕ → ℕ → ℕ → ℕ → Bool
+with_pair f a b x y = f x y || (eqb a x && eqb b y)
 
 -- cell c after a step of the closure by way of k
-unfoldable pub throughAt : List Bool → ℕ → ℕ → Bool
-throughAt cells k c = get_or cells c false || (get_or cells (c / 17 * 17 + k) false && get_or cells (k * 17 + c % 17) false)
+unfoldable pub through_at : List Bool → ℕ → ℕ → Bool
+through_at cells k c = get_or cells c false || (get_or cells (c / 17 * 17 + k) false && get_or cells (k * 17 + c % 17) false)

@@ -2,7 +2,7 @@
 ghost use Rattle.std.specs.Prelude.{◌≡◌, ◌≤◌, ◌<◌};
 ghost use Rattle.numbers.specs.First.{first};
 ghost use Rattle.precedence.specs.Circles.{through, reach, circular};
-ghost use Rattle.relation.specs.Cells.{edge, Cells, withPair, throughAt};
+ghost use Rattle.relation.specs.Cells.{edge, Cells, with_pair, through_at};
 
 // Whether the cells say that task `a` feeds task `b`.
 pub fn feeds(cells: &[bool; 289], a: usize, b: usize) -> bool
@@ -15,7 +15,7 @@ pub fn feeds(cells: &[bool; 289], a: usize, b: usize) -> bool
 
 // The cells that say so too; numbers above 16 change nothing.
 pub fn with_pair(cells: [bool; 289], a: usize, b: usize) -> [bool; 289]
-    ensures { Cells result (withPair (edge cells) a b) }
+    ensures { Cells result (with_pair (edge cells) a b) }
 {
     if 16 < a {
         return cells;
@@ -31,7 +31,7 @@ pub fn with_pair(cells: [bool; 289], a: usize, b: usize) -> [bool; 289]
 // Cell `c` after a step of the closure: as before, or by way of task `k`.
 fn through_cell(cells: &[bool; 289], k: usize, c: usize) -> bool
     requires { (k < 17) × (c < 289) }
-    ensures { result ≡ throughAt cells.now k c }
+    ensures { result ≡ through_at cells.now k c }
 {
     let into = c / 17 * 17 + k;
     let from = k * 17 + c % 17;

@@ -5,19 +5,19 @@ use native.Mathlib.Omega.{arith}
 use native.Mathlib.Nat.{min-le_left}
 use borrow.Author.Tests.{eq-eqb, ne_eqb}
 use Rattle.edf.specs.declared.Slot.{Slot}
-use Rattle.edf.specs.Tick.{owedFor, released}
+use Rattle.edf.specs.Tick.{owed_for, released}
 
 -- What a task is owed, by the test of its request.
 module _ (charge budget : ℕ) {asked : ℕ} where
-  pub owed_none : asked ≡ 0 → 0 ≡ owedFor charge budget asked
-  unfolding owedFor
+  pub owed_none : asked ≡ 0 → 0 ≡ owed_for charge budget asked
+  unfolding owed_for
   owed_none e = rw (eq-eqb asked 0 e) (omega (arith, min-le_left asked budget))
 
-  pub owed-some : {least : ℕ} → (asked ≡ 0 → ⊥) → least ≡ min asked budget → least + charge ≡ owedFor charge budget asked
-  unfolding owedFor
-  owed-some n e = rw (ne_eqb asked 0 n, e)
+  pub owed_some : {least : ℕ} → (asked ≡ 0 → ⊥) → least ≡ min asked budget → least + charge ≡ owed_for charge budget asked
+  unfolding owed_for
+  owed_some n e = rw (ne_eqb asked 0 n, e)
 
 -- A slot as its program makes it: the field that changes, by its own call.
-pub released-by : (s : Slot) {owed x : ℕ} → owed ≡ x
+pub released_by : (s : Slot) {owed x : ℕ} → owed ≡ x
     → record { period = s.period; budget = s.budget; until = s.period; remaining = owed } ≡ released s x
-released-by s e = ap (released s) e
+released_by s e = ap (released s) e

@@ -1,6 +1,6 @@
 // The release of one slot: what its task is owed for a period, and the slot that is released.
 ghost use Rattle.std.specs.Prelude.{◌≡◌, ◌+◌, ◌≤◌, min};
-ghost use Rattle.edf.specs.Tick.{owedFor, released as releasedOf};
+ghost use Rattle.edf.specs.Tick.{owed_for, released as released_of};
 
 use edf::Slot;
 
@@ -13,7 +13,7 @@ fn smaller(a: u32, b: u32) -> u32
 // What a task is owed for a period: nothing if it asks for nothing, or else the smaller of request and budget, and the charge.
 pub fn owed_for(charge: u32, budget: u32, asked: u32) -> u32
     requires { budget + charge ≤ 10000 }
-    ensures { result ≡ owedFor charge budget asked }
+    ensures { result ≡ owed_for charge budget asked }
 {
     if asked == 0 {
         0
@@ -25,7 +25,7 @@ pub fn owed_for(charge: u32, budget: u32, asked: u32) -> u32
 // A slot that is released: its next release is a period away, and it owes what its task is owed for the period.
 pub fn released(charge: u32, asked: u32, s: Slot) -> Slot
     requires { s.budget + charge ≤ 10000 }
-    ensures { result ≡ releasedOf s (owedFor charge s.budget asked) }
+    ensures { result ≡ released_of s (owed_for charge s.budget asked) }
 {
     let owed = owed_for(charge, s.budget, asked);
     Slot {

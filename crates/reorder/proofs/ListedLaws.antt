@@ -9,10 +9,10 @@ use native.Mathlib.Omega.{arith}
 use native.Mathlib.Decide.{ℕ_discrete, dec_lt}
 use Rattle.numbers.specs.Rows.{tab, row, up_to, entry}
 use Rattle.numbers.specs.Reorder.{gather, position, scatter}
-use Rattle.numbers.proofs.RowLaws.{Filled, fill_start, fill-with, fill_done, row-ext, row-cong, row-each, upTo-below, upTo-above, upTo-next, getD-row, getD-row-above, getD-tab, length-row, take_row}
-use Rattle.numbers.proofs.SortingLaws.{permutation-below}
-use Rattle.numbers.proofs.ReorderLaws.{order-long, gather-long, gather_cong, getD-gather, getD-scatter, position-of, position-entry}
-use Rattle.numbers.proofs.ZeroLaws.{zero-at}
+use Rattle.numbers.proofs.RowLaws.{Filled, fill_start, fill_with, fill_done, row_ext, row_cong, row-each, up_to-below, up_to_above, up_to_next, get_or-row, get_or-row_above, get_or-tab, length-row, take_row}
+use Rattle.numbers.proofs.SortingLaws.{permutation_below}
+use Rattle.numbers.proofs.ReorderLaws.{order_long, gather_long, gather_cong, get_or-gather, get_or-scatter, position_of, position-entry}
+use Rattle.numbers.proofs.ZeroLaws.{zero_at}
 use Rattle.reorder.specs.Listed.{Listed}
 
 module _ {order : List ℕ} {n : ℕ} (l : Listed order n) where
@@ -20,58 +20,58 @@ module _ {order : List ℕ} {n : ℕ} (l : Listed order n) where
   abbrev tasks : List ℕ
   tasks = take n order
 
-  tasks-long : length tasks ≡ n
-  tasks-long = order-long n tasks l.each
+  tasks_long : length tasks ≡ n
+  tasks_long = order_long n tasks l.each
 
-  entry-is : (k : ℕ) → k < n → entry order k ≡ entry tasks k
-  entry-is k h = sym (get_or-take n order k 0 h)
+  entry_is : (k : ℕ) → k < n → entry order k ≡ entry tasks k
+  entry_is k h = sym (get_or-take n order k 0 h)
 
   pub listed_below : (k : ℕ) → k < n → entry order k < n
-  listed_below k h = rw (entry-is k h) (permutation-below n tasks l.each k (rw tasks-long h))
+  listed_below k h = rw (entry_is k h) (permutation_below n tasks l.each k (rw tasks_long h))
 
   -- the front of the row is the gathered list
-  pub gathered-front : (values : List ℕ) → take n (row 0 n (entry (gather tasks values))) ≡ gather tasks values
-  gathered-front values = take_row n (gather tasks values) (gather-long n tasks l.each values) l.few
+  pub gathered_front : (values : List ℕ) → take n (row 0 n (entry (gather tasks values))) ≡ gather tasks values
+  gathered_front values = take_row n (gather tasks values) (gather_long n tasks l.each values) l.few
 
   -- of a row of sixteen it is that of the tasks' entries
-  pub gathered-tasks : (f : ℕ → ℕ) → take n (row 0 n (entry (gather tasks (row 0 n f)))) ≡ gather tasks (tab n f)
-  gathered-tasks f =
-      gathered-front (row 0 n f)
-      ∙ gather_cong n tasks l.each (row 0 n f) (tab n f) (λ t h. getD-row 0 n f t h l.few ∙ sym (getD-tab 0 n f t h))
+  pub gathered_tasks : (f : ℕ → ℕ) → take n (row 0 n (entry (gather tasks (row 0 n f)))) ≡ gather tasks (tab n f)
+  gathered_tasks f =
+      gathered_front (row 0 n f)
+      ∙ gather_cong n tasks l.each (row 0 n f) (tab n f) (λ t h. get_or-row 0 n f t h l.few ∙ sym (get_or-tab 0 n f t h))
 
   -- and of any row that of its first entries
-  pub gathered-entries : (values : List ℕ) → take n (row 0 n (entry (gather tasks values))) ≡ gather tasks (tab n (entry values))
-  gathered-entries values =
-      gathered-front values ∙ gather_cong n tasks l.each values (tab n (entry values)) (λ t h. sym (getD-tab 0 n (entry values) t h))
+  pub gathered_entries : (values : List ℕ) → take n (row 0 n (entry (gather tasks values))) ≡ gather tasks (tab n (entry values))
+  gathered_entries values =
+      gathered_front values ∙ gather_cong n tasks l.each values (tab n (entry values)) (λ t h. sym (get_or-tab 0 n (entry values) t h))
 
   -- what holds of each task's value and of 0 holds of each entry
-  pub gathered-each : (P : ℕ → Type 0) (values : List ℕ) → P 0 → ((t : ℕ) → t < n → P (entry values t)) → (k : ℕ) → P (entry (row 0 n (entry (gather tasks values))) k)
-  gathered-each P values o h =
+  pub gathered_each : (P : ℕ → Type 0) (values : List ℕ) → P 0 → ((t : ℕ) → t < n → P (entry values t)) → (k : ℕ) → P (entry (row 0 n (entry (gather tasks values))) k)
+  gathered_each P values o h =
       row-each 0 P n (entry (gather tasks values)) o
-      (λ k b. let i : k < length tasks = rw tasks-long b in
-      rw (getD-gather tasks values k i) (h (entry tasks k) (permutation-below n tasks l.each k i)))
+      (λ k b. let i : k < length tasks = rw tasks_long b in
+      rw (get_or-gather tasks values k i) (h (entry tasks k) (permutation_below n tasks l.each k i)))
 
 -- A loop that puts values into planning order: those of the first k tasks are there.
 pub record Gathering (order : List ℕ) (n : ℕ) (values gathered : List ℕ) (k : ℕ) : Type 0 where
   pub listed : Listed order n
   pub fills : Filled 0 n (entry (gather (take n order) values)) gathered k
 
-pub gather-start : (order : List ℕ) (n : ℕ) (values : List ℕ) → Listed order n → Gathering order n values (replicate 16 0) 0
-gather-start order n values l = record { listed = l; fills = fill_start 0 n (entry (gather (take n order) values)) l.few }
+pub gather_start : (order : List ℕ) (n : ℕ) (values : List ℕ) → Listed order n → Gathering order n values (replicate 16 0) 0
+gather_start order n values l = record { listed = l; fills = fill_start 0 n (entry (gather (take n order) values)) l.few }
 
 module _ {order : List ℕ} {n : ℕ} {values gathered : List ℕ} {k : ℕ} (s : Gathering order n values gathered k) where
-  pub gather-next : {r : List ℕ} → k < n → r ≡ set gathered k (entry values (entry order k)) → Gathering order n values r (k + 1)
-  gather-next h e =
+  pub gather_next : {r : List ℕ} → k < n → r ≡ set gathered k (entry values (entry order k)) → Gathering order n values r (k + 1)
+  gather_next h e =
       let l = s.listed in
       record {
         listed = l;
         fills =
-            fill-with s.fills h e
-            (ap (entry values) (entry-is l k h) ∙ sym (getD-gather (take n order) values k (rw (tasks-long l) h)));
+            fill_with s.fills h e
+            (ap (entry values) (entry_is l k h) ∙ sym (get_or-gather (take n order) values k (rw (tasks_long l) h)));
       }
 
-  pub gather-done : n ≤ k → gathered ≡ row 0 n (entry (gather (take n order) values))
-  gather-done h = fill_done s.fills h
+  pub gather_done : n ≤ k → gathered ≡ row 0 n (entry (gather (take n order) values))
+  gather_done h = fill_done s.fills h
 
 -- the choice of task t, once those of the first k tasks in planning order are written
 unfoldable written : List ℕ → ℕ → List ℕ → ℕ → ℕ → ℕ
@@ -83,14 +83,14 @@ pub record Scattering (order : List ℕ) (n : ℕ) (choices placement : List ℕ
   pub top : k ≤ n
   is : placement ≡ row 0 n (written order n choices k)
 
-pub scatter-start : (order : List ℕ) (n : ℕ) (choices : List ℕ) → Listed order n → Scattering order n choices (replicate 16 0) 0
+pub scatter_start : (order : List ℕ) (n : ℕ) (choices : List ℕ) → Listed order n → Scattering order n choices (replicate 16 0) 0
 unfolding written
-scatter-start order n choices l =
-    record { listed = l; top = omega arith; is = row-ext 0 n (written order n choices 0) (replicate 16 0) refl (λ t h. zero-at 16 t ∙ sym (at t (dec_lt t n))) }
+scatter_start order n choices l =
+    record { listed = l; top = omega arith; is = row_ext 0 n (written order n choices 0) (replicate 16 0) refl (λ t h. zero_at 16 t ∙ sym (at t (dec_lt t n))) }
   where
     at : (t : ℕ) → Dec (t < n) → up_to 0 n (written order n choices 0) t ≡ 0
-    at t (yes h) = upTo-below 0 n (written order n choices 0) t h ∙ upTo-above 0 0 (entry choices) (position (take n order) t) (omega arith)
-    at t (no h) = upTo-above 0 n (written order n choices 0) t (omega arith)
+    at t (yes h) = up_to-below 0 n (written order n choices 0) t h ∙ up_to_above 0 0 (entry choices) (position (take n order) t) (omega arith)
+    at t (no h) = up_to_above 0 n (written order n choices 0) t (omega arith)
 
 module _ {order : List ℕ} {n : ℕ} {choices placement : List ℕ} {k : ℕ} (s : Scattering order n choices placement k) where
   abbrev l : Listed order n
@@ -106,7 +106,7 @@ module _ {order : List ℕ} {n : ℕ} {choices placement : List ℕ} {k : ℕ} (
   written_next : k < n → set (row 0 n was) (entry order k) (entry choices k) ≡ row 0 n becomes
   unfolding written
   written_next h =
-      row-ext 0 n becomes (set (row 0 n was) (entry order k) (entry choices k))
+      row_ext 0 n becomes (set (row 0 n was) (entry order k) (entry choices k))
       (length-set (row 0 n was) (entry order k) (entry choices k) ∙ length-row 0 n was)
       (λ t b. at t b (ℕ_discrete t (entry order k)) (dec_lt t n))
     where
@@ -114,36 +114,36 @@ module _ {order : List ℕ} {n : ℕ} {choices placement : List ℕ} {k : ℕ} (
       below = listed_below l k h
 
       place : position (take n order) (entry order k) ≡ k
-      place = ap (position (take n order)) (entry-is l k h) ∙ position-entry n (take n order) l.each k (rw (tasks-long l) h)
+      place = ap (position (take n order)) (entry_is l k h) ∙ position-entry n (take n order) l.each k (rw (tasks_long l) h)
 
       at : (t : ℕ) → t < 16 → Dec (t ≡ entry order k) → Dec (t < n)
           → get_or (set (row 0 n was) (entry order k) (entry choices k)) t 0 ≡ up_to 0 n becomes t
       at t b (yes e) x =
           rw e
           (get_or-set_same (row 0 n was) (entry order k) (entry choices k) 0 (rw length-row (omega (arith, below, l.few)))
-          ∙ sym (upTo-below 0 n becomes (entry order k) below
+          ∙ sym (up_to-below 0 n becomes (entry order k) below
           ∙ ap (up_to 0 (k + 1) (entry choices)) place
-          ∙ upTo-below 0 (k + 1) (entry choices) k (omega arith)))
+          ∙ up_to-below 0 (k + 1) (entry choices) k (omega arith)))
       at t b (no ne) (yes x) =
-          let w = position-of n (take n order) l.each t x in
-          let d : position (take n order) t ≢ k = λ e. ne (sym w.1 ∙ ap (entry (take n order)) e ∙ sym (entry-is l k h)) in
+          let w = position_of n (take n order) l.each t x in
+          let d : position (take n order) t ≢ k = λ e. ne (sym w.1 ∙ ap (entry (take n order)) e ∙ sym (entry_is l k h)) in
           get_or-set_other (row 0 n was) (entry order k) t (entry choices k) 0 ne
-          ∙ getD-row 0 n was t x l.few
-          ∙ upTo-next 0 k (entry choices) (position (take n order) t) d
-          ∙ sym (upTo-below 0 n becomes t x)
+          ∙ get_or-row 0 n was t x l.few
+          ∙ up_to_next 0 k (entry choices) (position (take n order) t) d
+          ∙ sym (up_to-below 0 n becomes t x)
       at t b (no ne) (no x) =
           get_or-set_other (row 0 n was) (entry order k) t (entry choices k) 0 ne
-          ∙ getD-row-above 0 n was t (omega arith) b
-          ∙ sym (upTo-above 0 n becomes t (omega arith))
+          ∙ get_or-row_above 0 n was t (omega arith) b
+          ∙ sym (up_to_above 0 n becomes t (omega arith))
 
-  pub scatter-next : {r : List ℕ} → k < n → r ≡ set placement (entry order k) (entry choices k) → Scattering order n choices r (k + 1)
-  scatter-next h e = record { listed = l; top = omega arith; is = rw (e, s.is) (written_next h) }
+  pub scatter_next : {r : List ℕ} → k < n → r ≡ set placement (entry order k) (entry choices k) → Scattering order n choices r (k + 1)
+  scatter_next h e = record { listed = l; top = omega arith; is = rw (e, s.is) (written_next h) }
 
-  pub scatter-done : n ≤ k → placement ≡ row 0 n (entry (scatter (take n order) choices))
+  pub scatter_done : n ≤ k → placement ≡ row 0 n (entry (scatter (take n order) choices))
   unfolding written
-  scatter-done h = s.is ∙ row-cong 0 n was (entry (scatter (take n order) choices)) (λ t b. at t b)
+  scatter_done h = s.is ∙ row_cong 0 n was (entry (scatter (take n order) choices)) (λ t b. at t b)
     where
       at : (t : ℕ) → t < n → was t ≡ entry (scatter (take n order) choices) t
       at t b =
-          upTo-below 0 k (entry choices) (position (take n order) t) (omega (arith, (position-of n (take n order) l.each t b).0, tasks-long l))
-          ∙ sym (getD-scatter n (take n order) l.each choices t b)
+          up_to-below 0 k (entry choices) (position (take n order) t) (omega (arith, (position_of n (take n order) l.each t b).0, tasks_long l))
+          ∙ sym (get_or-scatter n (take n order) l.each choices t b)

@@ -1,7 +1,7 @@
 // Expanding a run log: the tests of the records and of the row, and the ticks of one record.
 ghost use Rattle.std.specs.Prelude.{◌≡◌, ◌≤◌};
 ghost use Rattle.runs.specs.Fit.{unfit};
-ghost use Rattle.replay.specs.Tests.{auditStart, audited, auditAnswer, painted, toPaint};
+ghost use Rattle.replay.specs.Tests.{audit_start, audited, audit_answer, painted, to_paint};
 
 use refusal::{Cause, Outcome};
 use runs::{Logged, Run};
@@ -18,7 +18,7 @@ pub struct Audit {
 
 // Nothing was looked at: 17 is no task's number.
 pub fn audit_start() -> Audit
-    ensures { result ≡ auditStart }
+    ensures { result ≡ audit_start }
 {
     Audit {
         unfit: 0,
@@ -75,7 +75,7 @@ pub fn look_at(a: Audit, r: Run) -> Audit
 // The answer for a row of `room` bytes: number 25 of a record, then of the row's length, or how many answers there are.
 pub fn expand_answer(a: Audit, room: usize) -> Logged
     requires { a.sum ≤ 60000 }
-    ensures { result ≡ auditAnswer a room }
+    ensures { result ≡ audit_answer a room }
 {
     let fit = refusal::refuse_if(a.unfit != 0, Cause::Record(a.unfit));
     let length = refusal::refuse_if(a.sum as usize != room, Cause::Record(0));
@@ -85,7 +85,7 @@ pub fn expand_answer(a: Audit, room: usize) -> Logged
 
 // How many records to expand: all, or none if the call is refused.
 pub fn to_paint(answer: Logged, n: usize) -> usize
-    ensures { result ≡ toPaint answer n }
+    ensures { result ≡ to_paint answer n }
 {
     let outcome = answer.outcome;
     match outcome {

@@ -7,17 +7,17 @@ use Rattle.text.specs.Ascii.{ascii}
 use Rattle.decimal.specs.Decimal.{field}
 use Rattle.text.specs.Shown.{Appended}
 use Rattle.text.specs.declared.Text.{Text}
-use Rattle.text.proofs.ClipLaws.{append-both, append-within}
-use Rattle.report.specs.Output.{verdictWord, summaryLine}
+use Rattle.text.proofs.ClipLaws.{append_both, append_within}
+use Rattle.report.specs.Output.{verdict_word, summary_line}
 
-pub summary-made : {t a b d r : Text} (plan : Allocation) → Appended t (verdictWord plan.verdict) 7 a
+pub summary_made : {t a b d r : Text} (plan : Allocation) → Appended t (verdict_word plan.verdict) 7 a
     → Appended a (field plan.rejected) 21 b
     → Appended b (field plan.steps) 21 d
-    → Appended d (ascii "\n") 1 r → Appended t (summaryLine plan) 50 r
-unfolding summaryLine
-summary-made plan p q u v = append-both (append-both (append-both p q) u) v
+    → Appended d (ascii "\n") 1 r → Appended t (summary_line plan) 50 r
+unfolding summary_line
+summary_made plan p q u v = append_both (append_both (append_both p q) u) v
 
 -- The word of a verdict.
-pub word_made : {t r : Text} {v w : Verdict} {i : ℕ} → v ≡ w → Appended t (verdictWord w) i r → i ≤ 7
-    → Appended t (verdictWord v) 7 r
-word_made e p h = rw e (append-within 7 p h)
+pub word_made : {t r : Text} {v w : Verdict} {i : ℕ} → v ≡ w → Appended t (verdict_word w) i r → i ≤ 7
+    → Appended t (verdict_word v) 7 r
+word_made e p h = rw e (append_within 7 p h)

@@ -3,7 +3,7 @@ ghost use Rattle.std.specs.Prelude.{◌≡◌, ◌≤◌};
 ghost use Rattle.taskset.specs.Promise.{Reads};
 ghost use Rattle.newform.specs.Limits.{new};
 ghost use Rattle.text.specs.Shown.{shown, Appended};
-ghost use Rattle.report.specs.Output.{verdictWord, summaryLine, planLines, readOutput, outputOf};
+ghost use Rattle.report.specs.Output.{verdict_word, summary_line, plan_lines, read_output, output_of};
 ghost use Rattle.report.specs.Reported.{Reported, PlanReadBack};
 
 use planner::{Allocation, Verdict};
@@ -15,7 +15,7 @@ const LIMIT: u32 = 1000000;
 
 // The word of a verdict.
 fn append_verdict(t: Text, verdict: Verdict) -> Text
-    ensures { Appended t (verdictWord verdict) 7 result }
+    ensures { Appended t (verdict_word verdict) 7 result }
 {
     match verdict {
         Verdict::All => text::append_bytes(t, b"all"),
@@ -27,7 +27,7 @@ fn append_verdict(t: Text, verdict: Verdict) -> Text
 
 // Last line: verdict, rejected demand and steps.
 fn append_summary(t: Text, plan: Allocation) -> Text
-    ensures { Appended t (summaryLine plan) 50 result }
+    ensures { Appended t (summary_line plan) 50 result }
 {
     let verdict = plan.verdict;
     let word = append_verdict(t, verdict);
@@ -39,7 +39,7 @@ fn append_summary(t: Text, plan: Allocation) -> Text
 // The output for a plan.
 fn plan_report(t: TaskSet, plan: Allocation) -> Text
     requires { t.fields.n ≤ 16 }
-    ensures { shown result ≡ planLines t plan }
+    ensures { shown result ≡ plan_lines t plan }
 {
     let nothing = text::empty();
     let cores = plan.placement;
@@ -50,7 +50,7 @@ fn plan_report(t: TaskSet, plan: Allocation) -> Text
 // The output for a table that was read, whatever its form and its tests: the plan, or the first refusal alone.
 pub fn report_read(reading: Reading) -> Text
     requires { Reads reading }
-    ensures { shown result ≡ readOutput reading }
+    ensures { shown result ≡ read_output reading }
 {
     let outcome = reading.outcome;
     let Outcome::Accepted = outcome else {
@@ -66,7 +66,7 @@ pub fn report_read(reading: Reading) -> Text
 
 // The program's output for the bytes of a table.
 pub fn report(table: &[u8]) -> Text
-    ensures answer { shown result ≡ outputOf (new table.now) }
+    ensures answer { shown result ≡ output_of (new table.now) }
     ensures reported { Reported (new table.now) (shown result) }
     ensures read_back { PlanReadBack (new table.now) (shown result) }
 {

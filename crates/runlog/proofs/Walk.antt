@@ -63,9 +63,9 @@ module _ {M : Type 1} {𝓤 : Ura M} (𝓛 : Logic 𝓤) (R : RattleType) (κ : 
   abbrev Token : Item 𝓤
   Token = ‵ (flft κ q) ⊛ ‵ ftrue
 
-  pub reads-copy : (rest : Fml) (P : SProp 𝓤) → ent 𝓤 (sem 𝓛 ftrue) (sem 𝓛 rest) → ent 𝓤 (⋆ 𝓛 (Token ∷ ‵ (fsep Own rest) ∷ [])) P
+  pub reads_copy : (rest : Fml) (P : SProp 𝓤) → ent 𝓤 (sem 𝓛 ftrue) (sem 𝓛 rest) → ent 𝓤 (⋆ 𝓛 (Token ∷ ‵ (fsep Own rest) ∷ [])) P
       → ent 𝓤 (⋆ 𝓛 (Token ∷ ‵ Own ∷ [])) (sep 𝓤 P (sem 𝓛 Own))
-  reads-copy rest P made asked =
+  reads_copy rest P made asked =
       qed 𝓛 (Token ∷ ‵ Own ∷ []) ∵ move ! (1 ∷ []) $ use1 𝓛 (‵ Own ⊛ ‵ Own) ((shr_slice_copy 𝓛 (named 0) κ R).twice s (v ∷ [])) $ split ! $
       nothing ! $ use1 𝓛 (‵ rest) made $ move ! (1 ∷ 0 ∷ []) $ fjoin ! $ move ! (2 ∷ 0 ∷ []) $ use2 𝓛 (raw P) asked $ frame ! $ done !
 

@@ -2,11 +2,11 @@
 ghost use Rattle.std.specs.Prelude.{◌≡◌, ◌≤◌, length, take};
 ghost use Rattle.refusal.specs.Causes.{number_in};
 ghost use Rattle.refusal.specs.Conditions.{Decides};
-ghost use Rattle.recording.specs.Tests.{writeAnswer, logAfter};
-ghost use Rattle.recording.specs.Limits.{Writable, writeConditions};
+ghost use Rattle.recording.specs.Tests.{write_answer, log_after};
+ghost use Rattle.recording.specs.Limits.{Writable, write_conditions};
 ghost use Rattle.recording.specs.Promise.{Writes};
-ghost use Rattle.replay.specs.Tests.{auditStart, auditOf, expandAnswer, rowAfter, paintedAll};
-ghost use Rattle.replay.specs.Limits.{Expandable, expandConditions};
+ghost use Rattle.replay.specs.Tests.{audit_start, audit_of, expand_answer, row_after, painted_all};
+ghost use Rattle.replay.specs.Limits.{Expandable, expand_conditions};
 ghost use Rattle.replay.specs.Promise.{Expands};
 
 use replay::Audit;
@@ -14,9 +14,9 @@ use runs::{Logged, Run};
 
 // Writes the log of the answers to the front of a lent row of records.
 pub fn write_log(answers: &[u8], records: &mut [Run]) -> Logged
-    ensures answer { result ≡ writeAnswer answers.now (length records.old) }
-    ensures records { records.new ≡ logAfter answers.now records.old }
-    ensures decides { Decides (Writable answers.now (length records.old)) (writeConditions answers.now (length records.old)) result.outcome }
+    ensures answer { result ≡ write_answer answers.now (length records.old) }
+    ensures records { records.new ≡ log_after answers.now records.old }
+    ensures decides { Decides (Writable answers.now (length records.old)) (write_conditions answers.now (length records.old)) result.outcome }
     ensures writes { Writes answers.now records.old (number_in result.outcome) result.count records.new }
 {
     let answer = recording::write_answer(answers, records.len());
@@ -33,7 +33,7 @@ pub fn write_log(answers: &[u8], records: &mut [Run]) -> Logged
 
 // Looks at every record, in order.
 fn audit_all(records: &[Run]) -> Audit
-    ensures { result ≡ auditOf auditStart records.now }
+    ensures { result ≡ audit_of audit_start records.now }
 {
     let mut a = replay::audit_start();
     let mut k: usize = 0;
@@ -47,7 +47,7 @@ fn audit_all(records: &[Run]) -> Audit
 // Fills in the ticks of the first `n` records, in order.
 fn paint_all(records: &[Run], row: &mut [u8], n: usize)
     requires { n ≤ length records.now }
-    ensures { row.new ≡ paintedAll (take n records.now) row.old }
+    ensures { row.new ≡ painted_all (take n records.now) row.old }
 {
     let mut k: usize = 0;
     while k < n {
@@ -58,9 +58,9 @@ fn paint_all(records: &[Run], row: &mut [u8], n: usize)
 
 // Fills a lent row of bytes with the answers of the records.
 pub fn expand_log(records: &[Run], bytes: &mut [u8]) -> Logged
-    ensures answer { result ≡ expandAnswer records.now (length bytes.old) }
-    ensures bytes { bytes.new ≡ rowAfter records.now bytes.old }
-    ensures decides { Decides (Expandable records.now (length bytes.old)) (expandConditions records.now (length bytes.old)) result.outcome }
+    ensures answer { result ≡ expand_answer records.now (length bytes.old) }
+    ensures bytes { bytes.new ≡ row_after records.now bytes.old }
+    ensures decides { Decides (Expandable records.now (length bytes.old)) (expand_conditions records.now (length bytes.old)) result.outcome }
     ensures expands { Expands records.now bytes.old (number_in result.outcome) result.count bytes.new }
 {
     let a = audit_all(records);

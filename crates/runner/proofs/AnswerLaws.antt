@@ -8,45 +8,45 @@ use Rattle.refusal.specs.Causes.{number_in}
 use Rattle.refusal.specs.Conditions.{Decides}
 use Rattle.refusal.specs.declared.Cause.TheVariants.{Slot as WrongSlot}
 use Rattle.refusal.specs.declared.Outcome.TheVariants.{Accepted, Refused}
-use Rattle.refusal.proofs.ConditionLaws.{decides-same}
+use Rattle.refusal.proofs.ConditionLaws.{decides_same}
 use Rattle.edf.specs.declared.Slot.{Slot}
-use Rattle.edf.specs.Slots.{firstWrong}
-use Rattle.edf.specs.Tick.{stepped, refusedTick, tick}
+use Rattle.edf.specs.Slots.{first_wrong}
+use Rattle.edf.specs.Tick.{stepped, refused_tick, tick}
 use Rattle.edf.proofs.DemandLaws.{split}
 use Rattle.runner.specs.declared.Core.{Core}
 use Rattle.runner.specs.declared.Ticked.{Ticked}
 use Rattle.runner.specs.Answers.{tick_answer}
-use Rattle.runner.specs.Records.{ValidRecord, recordConditions}
+use Rattle.runner.specs.Records.{ValidRecord, record_conditions}
 use Rattle.runner.specs.Plain.{PlainRefusal}
-use Rattle.runner.proofs.RecordLaws.{Decided, record-overcharged, record-accepted, record-refused}
-use Rattle.runner.proofs.TickLaws.{tick-overcharged, tick-accepted, tick-refused}
+use Rattle.runner.proofs.RecordLaws.{Decided, record_overcharged, record_accepted, record_refused}
+use Rattle.runner.proofs.TickLaws.{tick_overcharged, tick_accepted, tick_refused}
 
 module _ (charge : ℕ) (slots : List Slot) (requests : List ℕ) where
   -- A tick makes its steps, and that is right; or it refuses at a place, and that is.
-  tick-ends : ((tick charge slots requests ≡ stepped charge slots requests) × Decided charge slots Accepted)
-      ⊎ ((place : ℕ) × (tick charge slots requests ≡ refusedTick charge slots place) × Decided charge slots (Refused (WrongSlot place)))
-  tick-ends = elim (split charge 9) [
+  tick_ends : ((tick charge slots requests ≡ stepped charge slots requests) × Decided charge slots Accepted)
+      ⊎ ((place : ℕ) × (tick charge slots requests ≡ refused_tick charge slots place) × Decided charge slots (Refused (WrongSlot place)))
+  tick_ends = elim (split charge 9) [
     | inl h ↦
-        by_cases (ℕ_discrete (firstWrong charge slots) 0)
-        (λ z. inl (sym (tick-accepted charge slots requests h refl z), record-accepted charge slots h refl z))
-        (λ n. inr (firstWrong charge slots, sym (tick-refused charge slots requests h refl n), record-refused charge slots h refl n))
-    | inr h ↦ inr (0, sym (tick-overcharged charge slots requests h), record-overcharged charge slots h)
+        by_cases (ℕ_discrete (first_wrong charge slots) 0)
+        (λ z. inl (sym (tick_accepted charge slots requests h refl z), record_accepted charge slots h refl z))
+        (λ n. inr (first_wrong charge slots, sym (tick_refused charge slots requests h refl n), record_refused charge slots h refl n))
+    | inr h ↦ inr (0, sym (tick_overcharged charge slots requests h), record_overcharged charge slots h)
   ]
 
 module _ (core : Core) (requests : List ℕ) (r : Ticked) (e : tick_answer r ≡ tick core.charge core.slots requests) where
-  pub answer-decides : Decides (ValidRecord core.charge core.slots) (recordConditions core.charge core.slots) r.outcome
-  unfolding stepped refusedTick tick_answer
-  answer-decides =
+  pub answer_decides : Decides (ValidRecord core.charge core.slots) (record_conditions core.charge core.slots) r.outcome
+  unfolding stepped refused_tick tick_answer
+  answer_decides =
       ⊎_elim
-      (λ t. let w = e ∙ t.0 in decides-same r.outcome Accepted (λ i. (w i).refusal) (λ i. (w i).place) t.1)
-      (λ t. let w = e ∙ t.1 in decides-same r.outcome (Refused (WrongSlot t.0)) (λ i. (w i).refusal) (λ i. (w i).place) t.2)
-      (tick-ends core.charge core.slots requests)
+      (λ t. let w = e ∙ t.0 in decides_same r.outcome Accepted (λ i. (w i).refusal) (λ i. (w i).place) t.1)
+      (λ t. let w = e ∙ t.1 in decides_same r.outcome (Refused (WrongSlot t.0)) (λ i. (w i).refusal) (λ i. (w i).place) t.2)
+      (tick_ends core.charge core.slots requests)
 
-  pub answer-refused : number_in r.outcome ≢ 0 → PlainRefusal core r
-  unfolding stepped refusedTick tick_answer
-  answer-refused n =
+  pub answer_refused : number_in r.outcome ≢ 0 → PlainRefusal core r
+  unfolding stepped refused_tick tick_answer
+  answer_refused n =
       ⊎_elim
       (λ t. let w = e ∙ t.0 in absurd (n (λ i. (w i).refusal)))
       (λ t. let w = e ∙ t.1 in
       record { unchanged = λ i. record { slots = (w i).slots; charge = (w i).charge }; runs_none = λ i. (w i).run; late-none = λ i. (w i).late })
-      (tick-ends core.charge core.slots requests)
+      (tick_ends core.charge core.slots requests)

@@ -21,7 +21,7 @@ pub record PlainRelease (charge asked : ℕ) (s t : Slot) : Type 0 where
   pub budget : t.budget ≡ s.budget
   pub until : t.until ≡ s.period
   pub unasked : asked ≡ 0 → t.remaining ≡ 0
-  pub asked-for : asked ≢ 0 → t.remaining ≡ min asked s.budget + charge
+  pub asked_for : asked ≢ 0 → t.remaining ≡ min asked s.budget + charge
 
 -- Of some slots the one at i owes ticks, none that does is released sooner, and none with the same release has a lower number.
 pub record PlainChoice (ready : List Slot) (i : ℕ) : Type 0 where
@@ -35,7 +35,7 @@ pub record PlainNext (runs : Type 0) (s t : Slot) : Type 0 where
   pub period : t.period ≡ s.period
   pub budget : t.budget ≡ s.budget
   pub until : s.period ≢ 0 → t.until ≡ s.until - 1
-  pub until-empty : s.period ≡ 0 → t.until ≡ s.until
+  pub until_empty : s.period ≡ 0 → t.until ≡ s.until
   pub runs-one : runs → t.remaining ≡ s.remaining - 1
   pub waits : (runs → ⊥) → t.remaining ≡ s.remaining
 
@@ -53,9 +53,9 @@ pub record PlainTick (charge : ℕ) (slots : List Slot) (requests : List ℕ) (r
   pub runs : (i : ℕ) → r.run ≡ suc i → PlainChoice ready i
   -- The record handed back has the charge as it was, and sixteen slots too: the one that ran owes one less, and every occupied slot's release
   -- is one tick nearer.
-  pub charge-kept : r.core.charge ≡ charge
+  pub charge_kept : r.core.charge ≡ charge
   pub next : (i : ℕ) → i < 16 → PlainNext (suc i ≡ r.run) (slot_at ready i) (slot_at r.core.slots i)
-  pub next-sixteen : length r.core.slots ≡ 16
+  pub next_sixteen : length r.core.slots ≡ 16
 
 -- What a refused tick hands back: the record as it was, no task run and no late task.
 pub record PlainRefusal (core : Core) (r : Ticked) : Type 0 where

@@ -6,9 +6,9 @@ use Rattle.edf.specs.Slots.{slot_at, CanBe}
 
 -- the charge is at most 9, and every slot can be
 pub record ValidRecord (charge : ℕ) (slots : List Slot) : Type 0 where
-  pub charge-most : charge ≤ 9
-  pub slots-can-be : (i : ℕ) → i < 16 → CanBe charge (slot_at slots i)
+  pub charge_most : charge ≤ 9
+  pub slots_can_be : (i : ℕ) → i < 16 → CanBe charge (slot_at slots i)
 
 -- its refusals, both number 12: the charge is above 9, with place 0, or a slot cannot be
-abbrev pub recordConditions : ℕ → List Slot → List Condition
-recordConditions charge slots = only 12 (9 < charge) ∷ at 12 (λ i. CanBe charge (slot_at slots i) → ⊥) 16 ∷ []
+abbrev pub record_conditions : ℕ → List Slot → List Condition
+record_conditions charge slots = only 12 (9 < charge) ∷ at 12 (λ i. CanBe charge (slot_at slots i) → ⊥) 16 ∷ []

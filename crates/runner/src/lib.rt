@@ -1,13 +1,13 @@
 // The runner of one core: its record and one tick.
 ghost use Rattle.std.specs.Prelude.{◌≡◌, ◌≢◌, ◌≤◌};
 ghost use Rattle.edf.specs.Slots.{each};
-ghost use Rattle.edf.specs.Tick.{run as runSlot, stepped as steppedOf, tick as tickOf};
+ghost use Rattle.edf.specs.Tick.{run as run_slot, stepped as stepped_of, tick as tick_of};
 ghost use Rattle.refusal.specs.Conditions.{Decides};
 ghost use Rattle.refusal.specs.declared.Outcome.TheVariants.{Accepted, Refused};
 ghost use Rattle.refusal.specs.declared.Cause.TheVariants.{Slot as WrongSlot};
 ghost use Rattle.runner.specs.Answers.{tick_answer};
 ghost use Rattle.runner.specs.Plain.{PlainTick, PlainRefusal};
-ghost use Rattle.runner.specs.Records.{ValidRecord, recordConditions};
+ghost use Rattle.runner.specs.Records.{ValidRecord, record_conditions};
 
 use edf::Slot;
 use refusal::{Cause, Outcome};
@@ -31,7 +31,7 @@ pub struct Ticked {
 // Step 2: the task that runs owes one tick less; with 0, idle, the slots stay as they are.
 fn after_run(run: usize, slots: [Slot; 16]) -> [Slot; 16]
     requires { run ≤ 16 }
-    ensures { result ≡ each (runSlot run) slots }
+    ensures { result ≡ each (run_slot run) slots }
 {
     let mut next = slots;
     if run != 0 {
@@ -44,7 +44,7 @@ fn after_run(run: usize, slots: [Slot; 16]) -> [Slot; 16]
 // The three steps of a record that passed the tests.
 fn stepped(core: Core, requests: [u32; 16]) -> Ticked
     requires { ValidRecord core.charge core.slots }
-    ensures answer { tick_answer result ≡ steppedOf core.charge core.slots requests }
+    ensures answer { tick_answer result ≡ stepped_of core.charge core.slots requests }
     ensures outcome { result.outcome ≡ Accepted }
 {
     let charge = core.charge;
@@ -80,8 +80,8 @@ fn refused(core: Core, slot: usize) -> Ticked
 impl Core {
     // One tick: release, choose, run and advance; or number 12 with the record as it was.
     pub fn tick(self, requests: [u32; 16]) -> Ticked
-        ensures answer { tick_answer result ≡ tickOf self.charge self.slots requests }
-        ensures decides { Decides (ValidRecord self.charge self.slots) (recordConditions self.charge self.slots) result.outcome }
+        ensures answer { tick_answer result ≡ tick_of self.charge self.slots requests }
+        ensures decides { Decides (ValidRecord self.charge self.slots) (record_conditions self.charge self.slots) result.outcome }
         ensures plain { result.outcome ≡ Accepted → PlainTick self.charge self.slots requests result }
         ensures refused { result.outcome ≢ Accepted → PlainRefusal self result }
     {

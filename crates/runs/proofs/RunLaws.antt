@@ -9,7 +9,7 @@ use lib.Dec.{eqb}
 use lib.ListN.{length, get_or, drop, length-append, length-replicate}
 use lib.Seq.{drop-cons, drop-drop}
 use Rattle.runs.specs.declared.Run.{Run}
-use Rattle.runs.specs.Runs.{run, joined, runsFrom, runs, expand, total, lead}
+use Rattle.runs.specs.Runs.{run, joined, runs_from, runs, expand, total, lead}
 
 -- what an answer in front does, by whether the first run is of its task
 pub joined_same : (b at : ℕ) (r : Run) (rs : List Run) → b ≡ r.task → joined b at (r ∷ rs) ≡ run b at (suc r.length) ∷ rs
@@ -25,23 +25,23 @@ pub lead-other : (b c : ℕ) (xs : List ℕ) → (b ≡ c → ⊥) → lead b (c
 lead-other b c xs n = rw (ne_eqb b c n)
 
 -- the first run, and the runs after it
-pub runs_lead : (b at : ℕ) (xs : List ℕ) → runsFrom at (b ∷ xs) ≡ run b at (suc (lead b xs)) ∷ runsFrom (suc at + lead b xs) (drop (lead b xs) xs)
+pub runs_lead : (b at : ℕ) (xs : List ℕ) → runs_from at (b ∷ xs) ≡ run b at (suc (lead b xs)) ∷ runs_from (suc at + lead b xs) (drop (lead b xs) xs)
 runs_lead b at [] = refl
 runs_lead b at (c ∷ xs) = go (eqb b c) refl (runs_lead c (suc at) xs)
   where
-    go : (t : Bool) → eqb b c ≡ t → runsFrom (suc at) (c ∷ xs) ≡ run c (suc at) (suc (lead c xs)) ∷ runsFrom (suc (suc at) + lead c xs) (drop (lead c xs) xs)
-        → runsFrom at (b ∷ c ∷ xs) ≡ run b at (suc (lead b (c ∷ xs))) ∷ runsFrom (suc at + lead b (c ∷ xs)) (drop (lead b (c ∷ xs)) (c ∷ xs))
+    go : (t : Bool) → eqb b c ≡ t → runs_from (suc at) (c ∷ xs) ≡ run c (suc at) (suc (lead c xs)) ∷ runs_from (suc (suc at) + lead c xs) (drop (lead c xs) xs)
+        → runs_from at (b ∷ c ∷ xs) ≡ run b at (suc (lead b (c ∷ xs))) ∷ runs_from (suc at + lead b (c ∷ xs)) (drop (lead b (c ∷ xs)) (c ∷ xs))
     go true e ih =
         let same : b ≡ c = eqb-true b c e in
         let place : suc (suc at) + lead b xs ≡ suc at + suc (lead b xs) = omega arith in
-        ap (joined b at) ih ∙ (joined_same b at (run c (suc at) (suc (lead c xs))) (runsFrom (suc (suc at) + lead c xs) (drop (lead c xs) xs)) same) ∙ rw (e, ← same, place)
+        ap (joined b at) ih ∙ (joined_same b at (run c (suc at) (suc (lead c xs))) (runs_from (suc (suc at) + lead c xs) (drop (lead c xs) xs)) same) ∙ rw (e, ← same, place)
     go false e ih =
         let place : suc at + 0 ≡ suc at = omega arith in
-        ap (joined b at) ih ∙ (joined-other b at (run c (suc at) (suc (lead c xs))) (runsFrom (suc (suc at) + lead c xs) (drop (lead c xs) xs)) (eqb-false b c e)) ∙ ap (λ (rs : List Run). run b at 1 ∷ rs) (sym ih) ∙ rw (e, place)
+        ap (joined b at) ih ∙ (joined-other b at (run c (suc at) (suc (lead c xs))) (runs_from (suc (suc at) + lead c xs) (drop (lead c xs) xs)) (eqb-false b c e)) ∙ ap (λ (rs : List Run). run b at 1 ∷ rs) (sym ih) ∙ rw (e, place)
 
-pub lead-le : (b : ℕ) (xs : List ℕ) → lead b xs ≤ length xs
-lead-le b [] = omega arith
-lead-le b (c ∷ xs) = go (eqb b c) refl (lead-le b xs)
+pub lead_le : (b : ℕ) (xs : List ℕ) → lead b xs ≤ length xs
+lead_le b [] = omega arith
+lead_le b (c ∷ xs) = go (eqb b c) refl (lead_le b xs)
   where
     go : (t : Bool) → eqb b c ≡ t → lead b xs ≤ length xs → lead b (c ∷ xs) ≤ suc (length xs)
     go true e h = rw e (omega (arith, h))
@@ -56,31 +56,31 @@ expand-joined b at (r ∷ rs) = go (eqb b r.task) refl
     go true e = let same : b ≡ r.task = eqb-true b r.task e in rw (e, same)
     go false e = rw e
 
-pub expand-runs : (at : ℕ) (xs : List ℕ) → expand (runsFrom at xs) ≡ xs
+pub expand-runs : (at : ℕ) (xs : List ℕ) → expand (runs_from at xs) ≡ xs
 expand-runs at [] = refl
-expand-runs at (b ∷ xs) = expand-joined b at (runsFrom (suc at) xs) ∙ ap (λ (ys : List ℕ). b ∷ ys) (expand-runs (suc at) xs)
+expand-runs at (b ∷ xs) = expand-joined b at (runs_from (suc at) xs) ∙ ap (λ (ys : List ℕ). b ∷ ys) (expand-runs (suc at) xs)
 
 pub length-expand : (rs : List Run) → length (expand rs) ≡ total rs
 length-expand [] = refl
 length-expand (r ∷ rs) = let e = length-expand rs in simp (length-append, length-replicate, e)
 
-pub total_runs : (at : ℕ) (xs : List ℕ) → total (runsFrom at xs) ≡ length xs
-total_runs at xs = sym (length-expand (runsFrom at xs)) ∙ ap (λ (ys : List ℕ). length ys) (expand-runs at xs)
+pub total_runs : (at : ℕ) (xs : List ℕ) → total (runs_from at xs) ≡ length xs
+total_runs at xs = sym (length-expand (runs_from at xs)) ∙ ap (λ (ys : List ℕ). length ys) (expand-runs at xs)
 
 -- there are at most as many runs as answers
-pub joined-le : (b at : ℕ) (rs : List Run) → length (joined b at rs) ≤ suc (length rs)
-joined-le b at [] = omega arith
-joined-le b at (r ∷ rs) = go (eqb b r.task) refl
+pub joined_le : (b at : ℕ) (rs : List Run) → length (joined b at rs) ≤ suc (length rs)
+joined_le b at [] = omega arith
+joined_le b at (r ∷ rs) = go (eqb b r.task) refl
   where
     go : (t : Bool) → eqb b r.task ≡ t → length (joined b at (r ∷ rs)) ≤ suc (suc (length rs))
     go true e = rw e (omega arith)
     go false e = rw e (omega arith)
 
-pub runs-le : (at : ℕ) (xs : List ℕ) → length (runsFrom at xs) ≤ length xs
-runs-le at [] = omega arith
-runs-le at (b ∷ xs) = let h = runs-le (suc at) xs in let j = joined-le b at (runsFrom (suc at) xs) in omega (arith, h, j)
+pub runs_le : (at : ℕ) (xs : List ℕ) → length (runs_from at xs) ≤ length xs
+runs_le at [] = omega arith
+runs_le at (b ∷ xs) = let h = runs_le (suc at) xs in let j = joined_le b at (runs_from (suc at) xs) in omega (arith, h, j)
 
 -- the run that begins at place `at` of all answers, and those after it
 pub runs-at : (xs : List ℕ) (at : ℕ) → at < length xs
-    → runsFrom at (drop at xs) ≡ run (get_or xs at 0) at (suc (lead (get_or xs at 0) (drop (suc at) xs))) ∷ runsFrom (suc at + lead (get_or xs at 0) (drop (suc at) xs)) (drop (suc at + lead (get_or xs at 0) (drop (suc at) xs)) xs)
+    → runs_from at (drop at xs) ≡ run (get_or xs at 0) at (suc (lead (get_or xs at 0) (drop (suc at) xs))) ∷ runs_from (suc at + lead (get_or xs at 0) (drop (suc at) xs)) (drop (suc at + lead (get_or xs at 0) (drop (suc at) xs)) xs)
 runs-at xs at h = rw (drop-cons xs at 0 h, ← drop-drop (lead (get_or xs at 0) (drop (suc at) xs)) (suc at) xs) (runs_lead (get_or xs at 0) at (drop (suc at) xs))

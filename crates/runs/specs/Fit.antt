@@ -9,10 +9,10 @@ unfit before sum r =
     ltb 16 r.task || (eqb r.task before || (eqb r.length 0 || (not (eqb r.first sum) || ltb 60000 (sum + r.length))))
 
 -- the first unfit record of those from number `place` on, by its number; 0 if there is none
-abbrev pub unfitFrom : ℕ → ℕ → ℕ → List Run → ℕ
-unfitFrom place before sum [] = 0
-unfitFrom place before sum (r ∷ rs) = cond (unfit before sum r) place (unfitFrom (suc place) r.task (sum + r.length) rs)
+abbrev pub unfit_from : ℕ → ℕ → ℕ → List Run → ℕ
+unfit_from place before sum [] = 0
+unfit_from place before sum (r ∷ rs) = cond (unfit before sum r) place (unfit_from (suc place) r.task (sum + r.length) rs)
 
 -- the first unfit record of a log, counted from 1; 0 if there is none. Before the first there is none: 17 is no task's number.
-abbrev pub firstUnfit : List Run → ℕ
-firstUnfit rs = unfitFrom 1 17 0 rs
+abbrev pub first_unfit : List Run → ℕ
+first_unfit rs = unfit_from 1 17 0 rs

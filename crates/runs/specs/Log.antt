@@ -9,8 +9,8 @@ abbrev pub run_at : List Run → ℕ → Run
 run_at log k = get_or log k (record { task = 0; first = 0; length = 0 })
 
 -- the sum of the lengths before record k
-abbrev pub lengthsBefore : List Run → ℕ → ℕ
-lengthsBefore log k = sum_to (λ j. (run_at log j).length) k
+abbrev pub lengths_before : List Run → ℕ → ℕ
+lengths_before log k = sum_to (λ j. (run_at log j).length) k
 
 -- how many neighbours differ in a row that begins with b
 abbrev pub changes : ℕ → List ℕ → ℕ
@@ -42,7 +42,7 @@ pub record LogOf (answers : List ℕ) (log : List Run) : Type 0 where
   pub follows : (k : ℕ) → suc k < length log → (run_at log (suc k)).first ≡ (run_at log k).first + (run_at log k).length
   pub lasts : (k : ℕ) → k < length log → 1 ≤ (run_at log k).length
   pub differs : (k : ℕ) → suc k < length log → (run_at log (suc k)).task ≢ (run_at log k).task
-  pub adds : lengthsBefore log (length log) ≡ length answers
+  pub adds : lengths_before log (length log) ≡ length answers
   pub holds : (t : ℕ) → t < length answers → Once log t (entry answers t)
 
 -- A record is unfit: its task is above 16, or the same as that of the one before; its length is 0; its first tick is not the sum of the
@@ -51,5 +51,5 @@ pub data Unfit (log : List Run) : ℕ → Type 0 where
   strange : {k : ℕ} → 16 < (run_at log k).task → Unfit log k
   repeated : {k : ℕ} → (run_at log (suc k)).task ≡ (run_at log k).task → Unfit log (suc k)
   empty : {k : ℕ} → (run_at log k).length ≡ 0 → Unfit log k
-  apart : {k : ℕ} → (run_at log k).first ≢ lengthsBefore log k → Unfit log k
-  late : {k : ℕ} → 60000 < lengthsBefore log k + (run_at log k).length → Unfit log k
+  apart : {k : ℕ} → (run_at log k).first ≢ lengths_before log k → Unfit log k
+  late : {k : ℕ} → 60000 < lengths_before log k + (run_at log k).length → Unfit log k

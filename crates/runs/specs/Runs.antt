@@ -13,13 +13,13 @@ joined b at [] = run b at 1 ∷ []
 joined b at (r ∷ rs) = cond (eqb b r.task) (run b at (suc r.length) ∷ rs) (run b at 1 ∷ r ∷ rs)
 
 -- the records of answers, the first of which is that of tick `at`
-abbrev pub runsFrom : ℕ → List ℕ → List Run
-runsFrom at [] = []
-runsFrom at (b ∷ xs) = joined b at (runsFrom (suc at) xs)
+abbrev pub runs_from : ℕ → List ℕ → List Run
+runs_from at [] = []
+runs_from at (b ∷ xs) = joined b at (runs_from (suc at) xs)
 
 -- the log of a row of answers: neighbouring equal answers make one record, and ticks count from 0
 abbrev pub runs : List ℕ → List Run
-runs xs = runsFrom 0 xs
+runs xs = runs_from 0 xs
 
 -- the answers of a log
 abbrev pub expand : List Run → List ℕ

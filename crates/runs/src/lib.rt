@@ -1,6 +1,6 @@
 // The run log: its records, and the answer of a call that writes or expands one.
 ghost use Rattle.std.specs.Prelude.{◌≡◌};
-ghost use Rattle.runs.specs.Lent.{loggedBy};
+ghost use Rattle.runs.specs.Lent.{logged_by};
 
 use refusal::Outcome;
 
@@ -22,7 +22,7 @@ pub struct Logged {
 
 // The answer by the outcome of all tests.
 pub fn answer(outcome: Outcome, count: usize) -> Logged
-    ensures { result ≡ loggedBy outcome count }
+    ensures { result ≡ logged_by outcome count }
 {
     match outcome {
         Outcome::Refused(cause) => Logged {

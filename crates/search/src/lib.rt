@@ -1,8 +1,8 @@
 // The search: what the walk is given beside the demands is computed, then the walk is made.
 ghost use Rattle.std.specs.Prelude.{◌≡◌, take};
-ghost use Rattle.allocation.specs.Placement.{problemOf};
+ghost use Rattle.allocation.specs.Placement.{problem_of};
 ghost use Rattle.allocation.specs.Walk.{answer};
-ghost use Rattle.walk.specs.Given.{Ranges, foundOf};
+ghost use Rattle.walk.specs.Given.{Ranges, found_of};
 
 use walk::Found;
 
@@ -16,7 +16,7 @@ pub fn search(
     limit: u32,
 ) -> Found
     requires { Ranges demands n m h }
-    ensures { result ≡ foundOf (answer (problemOf h m (take n demands) (take n affinity)) limit) }
+    ensures { result ≡ found_of (answer (problem_of h m (take n demands) (take n affinity)) limit) }
 {
     let total = outset::total_demand(demands, n);
     let excess = outset::excess_of(total, m, h);

@@ -10,11 +10,11 @@ use native.Mathlib.Decide.{ℕ_discrete}
 use native.Mathlib.Omega.{arith}
 use borrow.Author.Tests.{eq-eqb, ne_eqb}
 use Rattle.numbers.specs.Rows.{padded}
-use Rattle.numbers.proofs.FirstLaws.{Seeking, looked-found, seek-none}
-use Rattle.numbers.proofs.ZeroLaws.{padded-next}
-use Rattle.precedence.specs.Sequence.{stands, holdsUp, waits, isReady, nextTask, with_next, ordered}
-use Rattle.precedence.proofs.ReadyLaws.{stands-last}
-use Rattle.precedence.proofs.WidthLaws.{next-cong}
+use Rattle.numbers.proofs.FirstLaws.{Seeking, looked_found, seek_none}
+use Rattle.numbers.proofs.ZeroLaws.{padded_next}
+use Rattle.precedence.specs.Sequence.{stands, holds_up, waits, is_ready, next_task, with_next, ordered}
+use Rattle.precedence.proofs.ReadyLaws.{stands_last}
+use Rattle.precedence.proofs.WidthLaws.{next_cong}
 use Rattle.precedence.proofs.SequenceLaws.{ordered-length}
 use Rattle.relation.specs.Cells.{edge}
 use Rattle.sequencing.specs.Marks.{marked}
@@ -22,23 +22,23 @@ use Rattle.sequencing.specs.Marks.{marked}
 -- ---- the loops that look for a task
 
 -- whether task k + 1 holds t up, as the loop has it
-pub holds-up : (f : ℕ → ℕ → Bool) (placed : List Bool) (t k : ℕ) {a b : Bool} → a ≡ f (k + 1) t → b ≡ get_or placed (k + 1) false → (a && not b) ≡ holdsUp f (marked placed) t k
-unfolding holdsUp
-holds-up f placed t k p q = let one : k + 1 ≡ suc k = omega arith in rw (p, q, one)
+pub holds_up_lem : (f : ℕ → ℕ → Bool) (placed : List Bool) (t k : ℕ) {a b : Bool} → a ≡ f (k + 1) t → b ≡ get_or placed (k + 1) false → (a && not b) ≡ holds_up f (marked placed) t k
+unfolding holds_up
+holds_up_lem f placed t k p q = let one : k + 1 ≡ suc k = omega arith in rw (p, q, one)
 
-module _ (f : ℕ → ℕ → Bool) (n : ℕ) (placed : ℕ → Bool) (t k : ℕ) (s : Seeking (holdsUp f placed t) n k) where
-  pub waits-found : {r : Bool} → k < n → r ≡ holdsUp f placed t k → r ≡ true → true ≡ waits f n placed t
+module _ (f : ℕ → ℕ → Bool) (n : ℕ) (placed : ℕ → Bool) (t k : ℕ) (s : Seeking (holds_up f placed t) n k) where
+  pub waits_found : {r : Bool} → k < n → r ≡ holds_up f placed t k → r ≡ true → true ≡ waits f n placed t
   unfolding waits
-  waits-found h e q = rw (← looked-found s h e q, ne_eqb (k + 1) 0 (λ z. omega arith))
+  waits_found h e q = rw (← looked_found s h e q, ne_eqb (k + 1) 0 (λ z. omega arith))
 
   pub waits-none : n ≤ k → false ≡ waits f n placed t
   unfolding waits
-  waits-none h = rw (← seek-none s h)
+  waits-none h = rw (← seek_none s h)
 
 -- whether task k + 1 is ready, as the loop has it
 pub ready-here : (f : ℕ → ℕ → Bool) (n : ℕ) (placed : List Bool) (k : ℕ) {a b : Bool} → a ≡ get_or placed (k + 1) false → b ≡ waits f n (marked placed) (k + 1)
-    → (not a && not b) ≡ isReady f n (marked placed) k
-unfolding isReady
+    → (not a && not b) ≡ is_ready f n (marked placed) k
+unfolding is_ready
 ready-here f n placed k p q = let one : k + 1 ≡ suc k = omega arith in rw (p, q, one)
 
 -- ---- the loop that places
@@ -48,17 +48,17 @@ pub record Marked (placed : List Bool) (l : List ℕ) : Type 0 where
   pub size : length placed ≡ 17
   pub at : (t : ℕ) → t < 17 → get_or placed t false ≡ stands l t
 
-mark-start : Marked (replicate 17 false) []
+mark_start : Marked (replicate 17 false) []
 unfolding stands
-mark-start = record { size = length-replicate 17 false; at = λ t h. get_or-replicate 17 t false false h }
+mark_start = record { size = length-replicate 17 false; at = λ t h. get_or-replicate 17 t false false h }
 
-mark-next : {placed : List Bool} {l : List ℕ} (t : ℕ) → Marked placed l → t < 17 → Marked (set placed t true) (l ++ (t ∷ []))
-mark-next {placed} {l} t m h = record {
+mark_next : {placed : List Bool} {l : List ℕ} (t : ℕ) → Marked placed l → t < 17 → Marked (set placed t true) (l ++ (t ∷ []))
+mark_next {placed} {l} t m h = record {
   size = length-set placed t true ∙ m.size;
   at = λ u b.
       by_cases (ℕ_discrete u t)
-      (λ e. rw (stands-last, e, get_or-set_same placed t true false (omega (arith, m.size)), eq-eqb t t refl, or-true))
-      (λ d. rw (stands-last, ne_eqb t u (λ e. d (sym e))) (get_or-set_other placed t u true false d ∙ m.at u b ∙ sym (or-false _)));
+      (λ e. rw (stands_last, e, get_or-set_same placed t true false (omega (arith, m.size)), eq-eqb t t refl, or-true))
+      (λ d. rw (stands_last, ne_eqb t u (λ e. d (sym e))) (get_or-set_other placed t u true false d ∙ m.at u b ∙ sym (or-false _)));
 }
 
 -- The first i tasks of the order stand in the row and are marked.
@@ -67,24 +67,24 @@ pub record Placing (cells : List Bool) (n : ℕ) (order : List ℕ) (placed : Li
   pub row : order ≡ padded (ordered (edge cells) n i)
   pub marks : Marked placed (ordered (edge cells) n i)
 
-pub place-start : (cells : List Bool) (n : ℕ) → Placing cells n (replicate 16 0) (replicate 17 false) 0
+pub place_start : (cells : List Bool) (n : ℕ) → Placing cells n (replicate 16 0) (replicate 17 false) 0
 unfolding ordered
-place-start cells n = record { top = omega arith; row = refl; marks = mark-start }
+place_start cells n = record { top = omega arith; row = refl; marks = mark_start }
 
-pub place-next : {cells : List Bool} {n : ℕ} {order : List ℕ} {placed : List Bool} {i t : ℕ} → Placing cells n order placed i → i < n → n ≤ 16
-    → t ≡ nextTask (edge cells) n (marked placed) → t < 17 → Placing cells n (set order i t) (set placed t true) (i + 1)
+pub place_next : {cells : List Bool} {n : ℕ} {order : List ℕ} {placed : List Bool} {i t : ℕ} → Placing cells n order placed i → i < n → n ≤ 16
+    → t ≡ next_task (edge cells) n (marked placed) → t < 17 → Placing cells n (set order i t) (set placed t true) (i + 1)
 unfolding ordered with_next
-place-next {cells} {n} {order} {placed} {i} {t} s h g e b =
+place_next {cells} {n} {order} {placed} {i} {t} s h g e b =
     let one : i + 1 ≡ suc i = omega arith in
     let f : ℕ → ℕ → Bool = edge cells in
     let l : List ℕ = ordered f n i in
-    let q : t ≡ nextTask f n (stands l) = e ∙ next-cong f f 17 (λ a b x y. refl) n (omega arith) (marked placed) (stands l) s.marks.at in
+    let q : t ≡ next_task f n (stands l) = e ∙ next_cong f f 17 (λ a b x y. refl) n (omega arith) (marked placed) (stands l) s.marks.at in
     let long : length l ≡ i = ordered-length f n i in
     record {
       top = omega arith;
-      row = rw (one, ← q) (ap (λ (x : List ℕ). set x i t) s.row ∙ ap (λ (k : ℕ). set (padded l) k t) (sym long) ∙ padded-next l t (omega (arith, long)));
-      marks = rw (one, ← q) (mark-next t s.marks b);
+      row = rw (one, ← q) (ap (λ (x : List ℕ). set x i t) s.row ∙ ap (λ (k : ℕ). set (padded l) k t) (sym long) ∙ padded_next l t (omega (arith, long)));
+      marks = rw (one, ← q) (mark_next t s.marks b);
     }
 
-pub place-done : {cells : List Bool} {n : ℕ} {order : List ℕ} {placed : List Bool} {i : ℕ} → Placing cells n order placed i → n ≤ i → order ≡ padded (ordered (edge cells) n n)
-place-done {n = n} {i = i} s h = let e : i ≡ n = omega (arith, s.top) in rw e at s.row
+pub place_done : {cells : List Bool} {n : ℕ} {order : List ℕ} {placed : List Bool} {i : ℕ} → Placing cells n order placed i → n ≤ i → order ≡ padded (ordered (edge cells) n n)
+place_done {n = n} {i = i} s h = let e : i ≡ n = omega (arith, s.top) in rw e at s.row

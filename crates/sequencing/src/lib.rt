@@ -1,14 +1,14 @@
 // The order of tasks that feed each other, from the cells that say which feeds which.
 ghost use Rattle.std.specs.Prelude.{◌≡◌, ◌≤◌, ◌<◌};
 ghost use Rattle.numbers.specs.Rows.{padded};
-ghost use Rattle.precedence.specs.Sequence.{waits as waitsOf, nextTask, ordered};
+ghost use Rattle.precedence.specs.Sequence.{waits as waits_of, next_task, ordered};
 ghost use Rattle.relation.specs.Cells.{edge};
 ghost use Rattle.sequencing.specs.Marks.{marked};
 
 // Whether some task of 1 to `n` feeds task `t` and does not yet stand.
 fn waits(cells: &[bool; 289], placed: &[bool; 17], n: usize, t: usize) -> bool
     requires { (n ≤ 16) × (t < 17) }
-    ensures { result ≡ waitsOf (edge cells.now) n (marked placed.now) t }
+    ensures { result ≡ waits_of (edge cells.now) n (marked placed.now) t }
 {
     let mut k: usize = 0;
     while k < n {
@@ -23,7 +23,7 @@ fn waits(cells: &[bool; 289], placed: &[bool; 17], n: usize, t: usize) -> bool
 // The lowest ready task; 0 if there is none.
 fn next_task(cells: &[bool; 289], placed: &[bool; 17], n: usize) -> usize
     requires { n ≤ 16 }
-    ensures { (result ≡ nextTask (edge cells.now) n (marked placed.now)) × (result < 17) }
+    ensures { (result ≡ next_task (edge cells.now) n (marked placed.now)) × (result < 17) }
 {
     let mut k: usize = 0;
     while k < n {

@@ -10,27 +10,27 @@ use lib.Dec.{eqb, ltb, leb}
 use borrow.Author.Tests.{eq-eqb, ne_eqb, lt-ltb, le-ltb, le-leb, ltb-true}
 use Rattle.edf.specs.declared.Slot.{Slot}
 use Rattle.edf.specs.declared.Claim.{Claim}
-use Rattle.edf.specs.Slots.{cannotBe}
-use Rattle.slots.specs.SoFar.{lateSoFar, choiceSoFar}
+use Rattle.edf.specs.Slots.{cannot_be}
+use Rattle.slots.specs.SoFar.{late_so_far, choice_so_far}
 
 -- The late task and the choice so far, by their tests.
 module _ (late k : ℕ) (s : Slot) where
-  pub late-new : (eqb late 0 && ltb 0 s.remaining) ≡ true → k ≡ lateSoFar late k s
+  pub late-new : (eqb late 0 && ltb 0 s.remaining) ≡ true → k ≡ late_so_far late k s
   late-new e = rw e
 
-  pub late-kept : (eqb late 0 && ltb 0 s.remaining) ≡ false → late ≡ lateSoFar late k s
-  late-kept e = rw e
+  pub late_kept : (eqb late 0 && ltb 0 s.remaining) ≡ false → late ≡ late_so_far late k s
+  late_kept e = rw e
 
 module _ (best : Claim) (k : ℕ) (s : Slot) where
-  pub choice-new : 0 < s.remaining → (eqb best.task 0 || ltb s.until best.deadline) ≡ true
-      → record { task = k; deadline = s.until } ≡ choiceSoFar best k s
-  choice-new h e = rw (lt-ltb 0 s.remaining h, e)
+  pub choice_new : 0 < s.remaining → (eqb best.task 0 || ltb s.until best.deadline) ≡ true
+      → record { task = k; deadline = s.until } ≡ choice_so_far best k s
+  choice_new h e = rw (lt-ltb 0 s.remaining h, e)
 
-  pub choice-kept : 0 < s.remaining → (eqb best.task 0 || ltb s.until best.deadline) ≡ false → best ≡ choiceSoFar best k s
-  choice-kept h e = rw (lt-ltb 0 s.remaining h, e)
+  pub choice_kept : 0 < s.remaining → (eqb best.task 0 || ltb s.until best.deadline) ≡ false → best ≡ choice_so_far best k s
+  choice_kept h e = rw (lt-ltb 0 s.remaining h, e)
 
-  pub choice-idle : s.remaining ≤ 0 → best ≡ choiceSoFar best k s
-  choice-idle h = rw (le-ltb 0 s.remaining h)
+  pub choice_idle : s.remaining ≤ 0 → best ≡ choice_so_far best k s
+  choice_idle h = rw (le-ltb 0 s.remaining h)
 
 -- The test as its program makes it, with the budget's remainder by 65,536.
 module _ (charge : ℕ) (s : Slot) where
@@ -44,9 +44,9 @@ module _ (charge : ℕ) (s : Slot) where
   shorten false false z h = refl
 
   -- a budget that is not its remainder is above the period, or the period is above 10,000
-  ranges-by : (ltb 10000 s.period || eqb s.budget 0 || ltb s.period s.budget || ltb s.period cost || leb s.period s.until || ltb cost s.remaining)
+  ranges_by : (ltb 10000 s.period || eqb s.budget 0 || ltb s.period s.budget || ltb s.period cost || leb s.period s.until || ltb cost s.remaining)
       ≡ (ltb 10000 s.period || eqb s.budget 0 || ltb s.period (s.budget + charge) || leb s.period s.until || ltb (s.budget + charge) s.remaining)
-  ranges-by =
+  ranges_by =
       by_cases (dec_lt s.budget 65536)
       (λ h. let same : s.budget % 65536 ≡ s.budget = mod-eq_of_lt h in
       rw same
@@ -63,15 +63,15 @@ module _ (charge : ℕ) (s : Slot) where
       )))
 
   -- where the period is 0, the release is out of range
-  pub cannot-be-by : ((not (eqb s.period 0) || not (eqb s.budget 0) || not (eqb s.until 0) || not (eqb s.remaining 0))
+  pub cannot_be_by : ((not (eqb s.period 0) || not (eqb s.budget 0) || not (eqb s.until 0) || not (eqb s.remaining 0))
       && (ltb 10000 s.period || eqb s.budget 0 || ltb s.period s.budget || ltb s.period cost || leb s.period s.until || ltb cost s.remaining))
-      ≡ cannotBe charge s
-  cannot-be-by =
+      ≡ cannot_be charge s
+  cannot_be_by =
       by_cases (ℕ_discrete s.period 0)
-      (λ z. rw (ranges-by, eq-eqb s.period 0 z, le-leb s.period s.until (omega arith), or-true)
-      (empty-by (not (eqb s.budget 0) || not (eqb s.until 0) || not (eqb s.remaining 0))))
-      (λ n. rw (ranges-by, ne_eqb s.period 0 n))
+      (λ z. rw (ranges_by, eq-eqb s.period 0 z, le-leb s.period s.until (omega arith), or-true)
+      (empty_by (not (eqb s.budget 0) || not (eqb s.until 0) || not (eqb s.remaining 0))))
+      (λ n. rw (ranges_by, ne_eqb s.period 0 n))
     where
-      empty-by : (x : Bool) → (x && true) ≡ (x || false)
-      empty-by true = refl
-      empty-by false = refl
+      empty_by : (x : Bool) → (x && true) ≡ (x || false)
+      empty_by true = refl
+      empty_by false = refl

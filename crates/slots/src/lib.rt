@@ -1,13 +1,13 @@
 // One slot of a core record: the empty one, whether one can be, and the late task and the choice with it.
 ghost use Rattle.std.specs.Prelude.{◌≡◌, ◌≤◌};
-ghost use Rattle.edf.specs.Slots.{emptySlot, cannotBe};
-ghost use Rattle.slots.specs.SoFar.{lateSoFar, choiceSoFar};
+ghost use Rattle.edf.specs.Slots.{empty_slot, cannot_be};
+ghost use Rattle.slots.specs.SoFar.{late_so_far, choice_so_far};
 
 use edf::{Claim, Slot};
 
 // A slot that no task has.
 pub fn empty() -> Slot
-    ensures { result ≡ emptySlot }
+    ensures { result ≡ empty_slot }
 {
     Slot {
         period: 0,
@@ -21,7 +21,7 @@ pub fn empty() -> Slot
 // A budget of 65,536 or more is above its period, or the period is above 10,000, whatever the cost is: so the remainder does, and the sum fits.
 pub fn cannot_be(charge: u32, s: Slot) -> bool
     requires { charge ≤ 9 }
-    ensures { result ≡ cannotBe charge s }
+    ensures { result ≡ cannot_be charge s }
 {
     let cost = s.budget % 65536 + charge;
     ((s.period != 0) | (s.budget != 0) | (s.until != 0) | (s.remaining != 0))
@@ -35,7 +35,7 @@ pub fn cannot_be(charge: u32, s: Slot) -> bool
 
 // The late task so far, with one released slot more.
 pub fn late_so_far(late: usize, number: usize, s: Slot) -> usize
-    ensures { result ≡ lateSoFar late number s }
+    ensures { result ≡ late_so_far late number s }
 {
     if (late == 0) & (0 < s.remaining) {
         number
@@ -46,7 +46,7 @@ pub fn late_so_far(late: usize, number: usize, s: Slot) -> usize
 
 // The choice so far, with one slot more.
 pub fn choice_so_far(best: Claim, number: usize, s: Slot) -> Claim
-    ensures { result ≡ choiceSoFar best number s }
+    ensures { result ≡ choice_so_far best number s }
 {
     if 0 < s.remaining {
         if (best.task == 0) | (s.until < best.deadline) {

@@ -1,12 +1,12 @@
 // A fresh core: the record that a core of a table starts from under a placement, or a refusal.
 ghost use Rattle.std.specs.Prelude.{◌≡◌, ◌≤◌};
-ghost use Rattle.edf.specs.Fresh.{slotFor, freshSlots};
+ghost use Rattle.edf.specs.Fresh.{slot_for, fresh_slots};
 ghost use Rattle.taskset.specs.Promise.{Checked};
 ghost use Rattle.taskset.specs.Table.{Decided};
 ghost use Rattle.oldform.specs.Limits.{beside};
-ghost use Rattle.placing.specs.Tests.{placingOutcome};
+ghost use Rattle.placing.specs.Tests.{placing_outcome};
 ghost use Rattle.placing.specs.Limits.{placed};
-ghost use Rattle.start.specs.Starts.{placedTasks, refusedStart, start_by, start_of};
+ghost use Rattle.start.specs.Starts.{placed_tasks, refused_start, start_by, start_of};
 ghost use Rattle.start.specs.Promise.{Starts};
 
 use edf::Slot;
@@ -24,7 +24,7 @@ pub struct Started {
 
 // The slot of a task that is first released at tick 0; all zeros if it is not placed on the core.
 fn fresh_slot(period: u32, budget: u32, placed: u8, core: u8) -> Slot
-    ensures { result ≡ slotFor period budget 0 placed core }
+    ensures { result ≡ slot_for period budget 0 placed core }
 {
     if placed == core {
         Slot {
@@ -41,7 +41,7 @@ fn fresh_slot(period: u32, budget: u32, placed: u8, core: u8) -> Slot
 // The slots of a fresh core record.
 fn fresh_slots(f: Fields, placement: &[u8], core: u8) -> [Slot; MOST_TASKS]
     requires { f.n ≤ 16 }
-    ensures { result ≡ freshSlots (placedTasks f placement.now) core }
+    ensures { result ≡ fresh_slots (placed_tasks f placement.now) core }
 {
     let empty = slots::empty();
     let mut slots = [empty; MOST_TASKS];
@@ -55,7 +55,7 @@ fn fresh_slots(f: Fields, placement: &[u8], core: u8) -> [Slot; MOST_TASKS]
 
 // A refusal, with a record of zeros beside its cause.
 fn refused(cause: Cause) -> Started
-    ensures { result ≡ refusedStart cause }
+    ensures { result ≡ refused_start cause }
 {
     let empty = slots::empty();
     let core = Core {
@@ -71,7 +71,7 @@ fn refused(cause: Cause) -> Started
 // The fresh record of a checked task set, or the first cause of refusal.
 pub fn start(t: TaskSet, placement: &[u8], core: u8) -> Started
     requires { Checked t }
-    ensures { result ≡ start_by placement.now core (placingOutcome t.fields placement.now core) t.fields }
+    ensures { result ≡ start_by placement.now core (placing_outcome t.fields placement.now core) t.fields }
 {
     let outcome = placing::placing_tests(t, placement, core);
     match outcome {

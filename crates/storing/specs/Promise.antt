@@ -5,7 +5,7 @@ use Rattle.refusal.specs.declared.Cause.{Cause}
 use Rattle.refusal.specs.declared.Outcome.TheVariants.{Accepted}
 use Rattle.fields.specs.declared.Fields.{Fields}
 use Rattle.taskset.specs.Table.{Table}
-use Rattle.storing.specs.Lent.{transferOf, exit_of}
+use Rattle.storing.specs.Lent.{transfer_of, exit_of}
 use Rattle.storing.specs.declared.Transfer.{Transfer}
 
 -- What a call that stores a table of this length does to a lent output, which is `after` at its exit.
@@ -21,10 +21,10 @@ pub record Stores (Form : List ℕ → Type 0) (size : ℕ) (out : List ℕ) (r 
   pub whole : length after ≡ length out
 
 -- the table that an accepted call left in front of the output
-abbrev pub storedIn : Transfer → List ℕ → List ℕ
-storedIn r after = take r.length after
+abbrev pub stored_in : Transfer → List ℕ → List ℕ
+stored_in r after = take r.length after
 
 -- A call that stores a table's fields as these bytes gives exactly s, wherever there is room for it.
 pub record Yields (cause : Cause) (bytes : Fields → List ℕ) (t : Table) (s : List ℕ) : Type 0 where
-  pub answers : (room : ℕ) → length s ≤ room → transferOf cause bytes t room ≡ record { outcome = Accepted; length = length s }
+  pub answers : (room : ℕ) → length s ≤ room → transfer_of cause bytes t room ≡ record { outcome = Accepted; length = length s }
   pub outputs : (out : List ℕ) → length s ≤ length out → exit_of cause bytes t out ≡ s ++ drop (length s) out

@@ -5,21 +5,21 @@ use Rattle.numbers.specs.Rows.{entry}
 use Rattle.refusal.specs.Causes.{number_in}
 use Rattle.refusal.specs.declared.Outcome.TheVariants.{Accepted}
 use Rattle.fields.specs.Limits.{Within}
-use Rattle.fields.specs.Fields.{periodAt, budgetAt}
-use Rattle.taskset.specs.Reading.{taskSetOf}
+use Rattle.fields.specs.Fields.{period_at, budget_at}
+use Rattle.taskset.specs.Reading.{task_set_of}
 use Rattle.taskset.specs.declared.TaskSet.{TaskSet}
 use Rattle.taskset.specs.declared.Reading.{Reading}
 
 -- A task set as a check makes it: of fields within the limits, with their hyperperiod and demands.
 pub record Checked (t : TaskSet) : Type 0 where
   pub within : Within t.fields
-  pub is : t ≡ taskSetOf t.fields
+  pub is : t ≡ task_set_of t.fields
 
 -- A task set that is exact: its hyperperiod is the least common multiple of the periods,
 -- each demand times its period is the budget plus the charge, times the hyperperiod, and entries beyond n are 0.
 pub record Exact (t : TaskSet) : Type 0 where
-  pub hyperperiod : IsLcm (periodAt t.fields) t.fields.n t.hyperperiod
-  pub demand : (k : ℕ) → k < t.fields.n → entry t.demands k * periodAt t.fields k ≡ (budgetAt t.fields k + t.fields.charge) * t.hyperperiod
+  pub hyperperiod : IsLcm (period_at t.fields) t.fields.n t.hyperperiod
+  pub demand : (k : ℕ) → k < t.fields.n → entry t.demands k * period_at t.fields k ≡ (budget_at t.fields k + t.fields.charge) * t.hyperperiod
   pub range : (k : ℕ) → k < t.fields.n → (1 ≤ entry t.demands k) × (entry t.demands k ≤ t.hyperperiod)
   pub beyond : (k : ℕ) → t.fields.n ≤ k → entry t.demands k ≡ 0
 

@@ -1,12 +1,12 @@
 -- A table as a call is given it: one value, whatever the bytes that it is stored in and what stands beside them.
 use Rattle.std.specs.Prelude.{ℕ, ◌≤◌, List, [], ◌∷◌, ◌++◌}
-use Rattle.refusal.specs.Tests.{◌then◌, roomTest}
-use Rattle.refusal.specs.Conditions.{Condition, Decides, Tested, noRoom}
+use Rattle.refusal.specs.Tests.{◌then◌, room_test}
+use Rattle.refusal.specs.Conditions.{Condition, Decides, Tested, no_room}
 use Rattle.refusal.specs.declared.Cause.{Cause}
 use Rattle.refusal.specs.declared.Outcome.{Outcome}
-use Rattle.taskset.specs.Reading.{readingBy}
-use Rattle.fields.specs.Tests.{fieldsOutcome}
-use Rattle.fields.specs.Limits.{Within, fieldConditions}
+use Rattle.taskset.specs.Reading.{reading_by}
+use Rattle.fields.specs.Tests.{fields_outcome}
+use Rattle.fields.specs.Limits.{Within, field_conditions}
 use Rattle.fields.specs.declared.Fields.{Fields}
 use Rattle.taskset.specs.declared.Reading.{Reading}
 
@@ -20,7 +20,7 @@ pub record Table : Type 1 where
 
 -- fields that stand in no bytes, as a table
 unfoldable pub bare : Fields → Table
-bare f = record { fields = f; outcome = fieldsOutcome f; Valid = Within f; conditions = fieldConditions f }
+bare f = record { fields = f; outcome = fields_outcome f; Valid = Within f; conditions = field_conditions f }
 
 -- the table with tests of a call behind its own: their outcome, their limits and their refusals
 abbrev pub also : Table → Outcome → Type 0 → List Condition → Table
@@ -29,11 +29,11 @@ also t tests Good more = record { fields = t.fields; outcome = t.outcome then te
 -- the table with a lent output of this room in which so many bytes are to stand: the room is tested behind the table's own tests, with this
 -- cause, whose number this is
 abbrev pub lent : Cause → ℕ → Table → ℕ → ℕ → Table
-lent cause number t size room = also t (roomTest cause size room) (size ≤ room) (noRoom number size room ∷ [])
+lent cause number t size room = also t (room_test cause size room) (size ≤ room) (no_room number size room ∷ [])
 
 -- what reading a table gives
 unfoldable pub reading_of : Table → Reading
-reading_of t = readingBy t.outcome t.fields
+reading_of t = reading_by t.outcome t.fields
 
 -- A call on a table is accepted exactly if the table is valid, and refused with the first of its conditions that holds.
 abbrev pub Decided : Table → Outcome → Type 0

@@ -1,13 +1,13 @@
 // A task set: the check of its fields, its hyperperiod and its exact demands, or a refusal.
 ghost use Rattle.std.specs.Prelude.{◌≡◌, ◌/◌, ◌≤◌, ◌<◌};
 ghost use Rattle.numbers.specs.Rows.{row};
-ghost use Rattle.refusal.specs.Tests.{◌then◌, inOrder};
+ghost use Rattle.refusal.specs.Tests.{◌then◌, in_order};
 ghost use Rattle.refusal.specs.declared.Outcome.TheVariants.{Accepted};
-ghost use Rattle.fields.specs.Hyperperiod.{hyperperiodOf};
-ghost use Rattle.fields.specs.Tests.{limitTests};
+ghost use Rattle.fields.specs.Hyperperiod.{hyperperiod_of};
+ghost use Rattle.fields.specs.Tests.{limit_tests};
 ghost use Rattle.fields.specs.Limits.{Sized, Within};
-ghost use Rattle.taskset.specs.Demands.{demandOf};
-ghost use Rattle.taskset.specs.Reading.{refusedReading, acceptedReading, readingBy};
+ghost use Rattle.taskset.specs.Demands.{demand_of};
+ghost use Rattle.taskset.specs.Reading.{refused_reading, accepted_reading, reading_by};
 ghost use Rattle.taskset.specs.Promise.{Reads};
 ghost use Rattle.taskset.specs.Table.{bare, reading_of, Decided};
 
@@ -39,16 +39,16 @@ fn jobs(h: u32, period: u32) -> u32
 
 // The demand of task `k` in the hyperperiod `h`. The division is exact, so it comes first.
 fn demand(f: Fields, h: u32, k: usize) -> u32
-    requires { Within f × (h ≡ hyperperiodOf f) × (k < f.n) }
-    ensures { result ≡ demandOf f k }
+    requires { Within f × (h ≡ hyperperiod_of f) × (k < f.n) }
+    ensures { result ≡ demand_of f k }
 {
     numbers::sum(f.budgets[k], f.charge) as u32 * jobs(h, f.periods[k])
 }
 
 // The demand of each task in the hyperperiod `h`, and zeros up to sixteen.
 fn demands(f: Fields, h: u32) -> [u32; MOST_TASKS]
-    requires { Within f × (h ≡ hyperperiodOf f) }
-    ensures { result ≡ row 0 f.n (demandOf f) }
+    requires { Within f × (h ≡ hyperperiod_of f) }
+    ensures { result ≡ row 0 f.n (demand_of f) }
 {
     let mut entries = [0u32; MOST_TASKS];
     let mut k = 0;
@@ -62,7 +62,7 @@ fn demands(f: Fields, h: u32) -> [u32; MOST_TASKS]
 
 // A refusal, with zeros beside its cause.
 fn refused(cause: Cause) -> Reading
-    ensures { result ≡ refusedReading cause }
+    ensures { result ≡ refused_reading cause }
 {
     let fields = Fields {
         n: 0,
@@ -87,7 +87,7 @@ fn refused(cause: Cause) -> Reading
 // The task set of fields within the limits.
 fn accepted(f: Fields) -> Reading
     requires { Within f }
-    ensures { result ≡ acceptedReading f }
+    ensures { result ≡ accepted_reading f }
 {
     let h = hyperperiod::common_multiple(f).value;
     let d = demands(f, h);
@@ -105,7 +105,7 @@ fn accepted(f: Fields) -> Reading
 // The answer for fields whose sizes are right.
 fn check_limits(f: Fields) -> Reading
     requires { Sized f }
-    ensures { result ≡ readingBy (inOrder (limitTests f)) f }
+    ensures { result ≡ reading_by (in_order (limit_tests f)) f }
 {
     let limits = limits::limit_tests(f);
     match limits {
@@ -117,7 +117,7 @@ fn check_limits(f: Fields) -> Reading
 // The answer for fields after tests that a stored form makes before those of the limits; they include those of the sizes.
 pub fn check_after(before: Outcome, f: Fields) -> Reading
     requires { before ≡ Accepted → Sized f }
-    ensures { result ≡ readingBy (before then inOrder (limitTests f)) f }
+    ensures { result ≡ reading_by (before then in_order (limit_tests f)) f }
 {
     match before {
         Outcome::Refused(cause) => refused(cause),
@@ -128,7 +128,7 @@ pub fn check_after(before: Outcome, f: Fields) -> Reading
 // A reading with tests of a call behind those that it went by.
 pub fn also(reading: Reading, tests: Outcome) -> Reading
     requires { Reads reading }
-    ensures { result ≡ readingBy (reading.outcome then tests) reading.tasks.fields }
+    ensures { result ≡ reading_by (reading.outcome then tests) reading.tasks.fields }
 {
     let read = reading.outcome;
     let outcome = refusal::then(read, tests);

@@ -13,56 +13,56 @@ use lib.ListN.{length, get_or, take}
 use lib.Seq.{get_or-take, length-take-le}
 use borrow.Author.Tests.{lt-ltb, le-ltb, le-leb, lt-leb, eq-eqb, ne_eqb, not-true, not-false}
 use Rattle.numbers.specs.Rows.{entry}
-use Rattle.numbers.proofs.BoolLaws.{and-swap}
+use Rattle.numbers.proofs.BoolLaws.{and_swap}
 use Rattle.numbers.proofs.FirstLaws.{first_cong}
-use Rattle.numbers.proofs.RowLaws.{getD-row}
-use Rattle.numbers.proofs.LoadLaws.{sum-take-le}
+use Rattle.numbers.proofs.RowLaws.{get_or-row}
+use Rattle.numbers.proofs.LoadLaws.{sum-take_le}
 use Rattle.affinity.specs.Permitted.{permitted}
-use Rattle.allocation.specs.Placement.{problemOf, total, excess}
-use Rattle.allocation.specs.Rule.{tellsApart, twins, areTwins, is_empty, someEmptyTwin, tried}
+use Rattle.allocation.specs.Placement.{problem_of, total, excess}
+use Rattle.allocation.specs.Rule.{tells_apart, twins, are_twins, is_empty, some_empty_twin, tried}
 use Rattle.allocation.specs.Walk.{entered}
-use Rattle.allocation.proofs.Order.{choice-core, choice-none}
-use Rattle.outset.specs.Twins.{twinRows}
-use Rattle.twins.specs.EmptyTwin.{someZeroTwin}
+use Rattle.allocation.proofs.Order.{choice_core, choice_none}
+use Rattle.outset.specs.Twins.{twin_rows}
+use Rattle.twins.specs.EmptyTwin.{some_zero_twin}
 use Rattle.walk.specs.Given.{Ranges}
-use Rattle.walk.proofs.State.{Job, problem, Fixed, Locals, held, Walking, Improving, Looked, path_room, load-next}
+use Rattle.walk.proofs.State.{Job, problem, Fixed, Locals, held, Walking, Improving, Looked, path_room, load_next}
 
 -- what the walk leaves unchanged, in the order of the code
 abbrev pub job : List ℕ → List ℕ → ℕ → ℕ → ℕ → ℕ → Job
 job demands affinity n m h limit = record { row = demands; affinity = affinity; tasks = n; cores = m; capacity = h; limit = limit }
 
 -- sixteen demands of at most a million
-pub total-small : {demands : List ℕ} {n m h : ℕ} → Ranges demands n m h → (affinity : List ℕ) → total (problemOf h m (take n demands) affinity) ≤ 16000000
-total-small {demands} {n} {m} {h} g affinity =
-    le_trans (sum-take-le h demands n g.each) (mul-le-mul g.few g.small)
+pub total_small : {demands : List ℕ} {n m h : ℕ} → Ranges demands n m h → (affinity : List ℕ) → total (problem_of h m (take n demands) affinity) ≤ 16000000
+total_small {demands} {n} {m} {h} g affinity =
+    le_trans (sum-take_le h demands n g.each) (mul-le-mul g.few g.small)
 
 -- the ranges of the arguments
-pub ranges-fixed : {demands : List ℕ} {n m h limit : ℕ} → Ranges demands n m h → (affinity : List ℕ) → length demands ≡ 16 → Fixed (job demands affinity n m h limit)
-ranges-fixed {n = n} g affinity l = record { row-long = l; few = g.few; few-cores = g.few-cores; small = total-small g (take n affinity) }
+pub ranges_fixed : {demands : List ℕ} {n m h limit : ℕ} → Ranges demands n m h → (affinity : List ℕ) → length demands ≡ 16 → Fixed (job demands affinity n m h limit)
+ranges_fixed {n = n} g affinity l = record { row_long = l; few = g.few; few_cores = g.few_cores; small = total_small g (take n affinity) }
 
-not-leb : (a b : ℕ) → not (leb a b) ≡ ltb b a
-not-leb a b =
+not_leb : (a b : ℕ) → not (leb a b) ≡ ltb b a
+not_leb a b =
     dite (dec_lt b a) (λ x. rw (lt-leb a b x, lt-ltb b a x)) (λ x. rw (le-leb a b (omega arith), le-ltb b a (omega arith)))
 
 -- beside a number that is below the bound, the other one decides
-ltb-max : (o e b : ℕ) → e < b → ltb (max o e) b ≡ ltb o b
-ltb-max o e b h =
+ltb_max : (o e b : ℕ) → e < b → ltb (max o e) b ≡ ltb o b
+ltb_max o e b h =
     dite (dec_lt o b)
     (λ x. rw (lt-ltb o b x, lt-ltb (max o e) b (omega arith)))
     (λ x. rw (le-ltb o b (omega arith), le-ltb (max o e) b (omega arith)))
 
 -- ---- twins
 
-twins-taken : (affinity : List ℕ) (n c d : ℕ) → twins (take n affinity) n c d ≡ twins affinity n c d
+twins_taken : (affinity : List ℕ) (n c d : ℕ) → twins (take n affinity) n c d ≡ twins affinity n c d
 unfolding twins
-twins-taken affinity n c d =
-    ap (λ (t : ℕ). eqb t 0) (first_cong (tellsApart (take n affinity) c d) (tellsApart affinity c d) n
+twins_taken affinity n c d =
+    ap (λ (t : ℕ). eqb t 0) (first_cong (tells_apart (take n affinity) c d) (tells_apart affinity c d) n
     (λ k h. ap (λ (b : ℕ). xor (permitted b c) (permitted b d)) (get_or-take n affinity k 0 h)))
 
-twin-entry : (affinity : List ℕ) (n c d : ℕ) → c < 4 → d < 4 → get_or (twinRows affinity n) (4 * c + d) false ≡ twins affinity n (suc c) (suc d)
-unfolding twinRows
-twin-entry affinity n c d i j =
-    getD-row false 16 (λ k. twins affinity n (k / 4 + 1) (k % 4 + 1)) (4 * c + d) (omega arith) (omega arith)
+twin_entry : (affinity : List ℕ) (n c d : ℕ) → c < 4 → d < 4 → get_or (twin_rows affinity n) (4 * c + d) false ≡ twins affinity n (suc c) (suc d)
+unfolding twin_rows
+twin_entry affinity n c d i j =
+    get_or-row false 16 (λ k. twins affinity n (k / 4 + 1) (k % 4 + 1)) (4 * c + d) (omega arith) (omega arith)
     ∙ (let q : (4 * c + d) / 4 + 1 ≡ suc c = omega arith in let r : (4 * c + d) % 4 + 1 ≡ suc d = omega arith in rw (q, r))
 
 module _ {J : Job} {L : Locals} (s : Walking J L) where
@@ -77,76 +77,76 @@ module _ {J : Job} {L : Locals} (s : Walking J L) where
   abbrev byte : ℕ
   byte = get_or J.affinity L.depth 0
 
-  byte-is : entry (take J.tasks J.affinity) (length node) ≡ byte
-  byte-is = rw (length-take-le L.depth L.path (omega (arith, path_room s))) (get_or-take J.tasks J.affinity L.depth 0 s.chosen.depth_below)
+  byte_is : entry (take J.tasks J.affinity) (length node) ≡ byte
+  byte_is = rw (length-take-le L.depth L.path (omega (arith, path_room s))) (get_or-take J.tasks J.affinity L.depth 0 s.chosen.depth_below)
 
   -- the walk's test on the code's numbers
-  test-is : {over : ℕ} → over ≡ excess (problem J) → over < L.bound → (x : ℕ)
+  test_is : {over : ℕ} → over ≡ excess (problem J) → over < L.bound → (x : ℕ)
       → let out = L.out + cond (eqb x 0) demand 0 in
       entered (problem J) node x L.bound
       ≡ (((eqb x 0 || (permitted byte x && leb (get_or (held L) x 0 + demand) J.capacity)) && ltb out L.bound) && tried (problem J) node x)
   unfolding entered
-  test-is ex low x =
+  test_is ex low x =
       let out = L.out + cond (eqb x 0) demand 0 in
-      rw (load-next s x x, eq-eqb x x refl, load-next s x 0, ltb-max out (excess (problem J)) L.bound (rw ex at low), byte-is)
-      (and-swap (eqb x 0 || (permitted byte x && leb (get_or (held L) x 0 + demand) J.capacity)) (tried (problem J) node x) (ltb out L.bound))
+      rw (load_next s x x, eq-eqb x x refl, load_next s x 0, ltb_max out (excess (problem J)) L.bound (rw ex at low), byte_is)
+      (and_swap (eqb x 0 || (permitted byte x && leb (get_or (held L) x 0 + demand) J.capacity)) (tried (problem J) node x) (ltb out L.bound))
 
   -- the rows of twins say which cores are twins
-  row-twin : {rows : List Bool} → rows ≡ twinRows J.affinity J.tasks → (c d : ℕ) → c < 4 → d < 4
-      → get_or rows (4 * c + d) false ≡ areTwins (problem J) (suc c) (suc d)
-  row-twin {rows} t c d i j =
-      rw (t, twin-entry J.affinity J.tasks c d i j)
-      (sym (ap (λ (n : ℕ). twins (take J.tasks J.affinity) n (suc c) (suc d)) (length-take-le J.tasks J.row (omega (arith, s.fixed.row-long, s.fixed.few)))
-      ∙ twins-taken J.affinity J.tasks (suc c) (suc d)))
+  row_twin : {rows : List Bool} → rows ≡ twin_rows J.affinity J.tasks → (c d : ℕ) → c < 4 → d < 4
+      → get_or rows (4 * c + d) false ≡ are_twins (problem J) (suc c) (suc d)
+  row_twin {rows} t c d i j =
+      rw (t, twin_entry J.affinity J.tasks c d i j)
+      (sym (ap (λ (n : ℕ). twins (take J.tasks J.affinity) n (suc c) (suc d)) (length-take-le J.tasks J.row (omega (arith, s.fixed.row_long, s.fixed.few)))
+      ∙ twins_taken J.affinity J.tasks (suc c) (suc d)))
 
   -- the rule on the code's numbers
-  module _ {rows : List Bool} (t : rows ≡ twinRows J.affinity J.tasks) (c : ℕ) (i : c < 4) where
-    some-empty-is : (k : ℕ) → k ≤ 4 → someZeroTwin L.loads rows c k ≡ someEmptyTwin (problem J) node (suc c) k
-    unfolding someZeroTwin someEmptyTwin is_empty
-    some-empty-is zero h = refl
-    some-empty-is (suc k) h = rw (s.chosen.loads-are (suc k), row-twin t c k i (omega arith), some-empty-is k (omega arith))
+  module _ {rows : List Bool} (t : rows ≡ twin_rows J.affinity J.tasks) (c : ℕ) (i : c < 4) where
+    some_empty_is : (k : ℕ) → k ≤ 4 → some_zero_twin L.loads rows c k ≡ some_empty_twin (problem J) node (suc c) k
+    unfolding some_zero_twin some_empty_twin is_empty
+    some_empty_is zero h = refl
+    some_empty_is (suc k) h = rw (s.chosen.loads_are (suc k), row_twin t c k i (omega arith), some_empty_is k (omega arith))
 
   -- entry 0 is what is rejected
-  held-core : get_or (held L) (L.next + 1) 0 ≡ get_or L.loads L.next 0
-  held-core = rw (add-one L.next)
+  held_core : get_or (held L) (L.next + 1) 0 ≡ get_or L.loads L.next 0
+  held_core = rw (add-one L.next)
 
-  module _ (k : L.next < J.cores) {rows : List Bool} (t : rows ≡ twinRows J.affinity J.tasks) where
-    tried-is : tried (problem J) node (L.next + 1) ≡ not (eqb (get_or L.loads L.next 0) 0 && someZeroTwin L.loads rows L.next L.next)
+  module _ (k : L.next < J.cores) {rows : List Bool} (t : rows ≡ twin_rows J.affinity J.tasks) where
+    tried_is : tried (problem J) node (L.next + 1) ≡ not (eqb (get_or L.loads L.next 0) 0 && some_zero_twin L.loads rows L.next L.next)
     unfolding tried is_empty
-    tried-is =
-        let four : L.next < 4 = omega (arith, s.fixed.few-cores) in
-        rw (add-one L.next, s.chosen.loads-are (suc L.next), some-empty-is t L.next four L.next (omega arith))
+    tried_is =
+        let four : L.next < 4 = omega (arith, s.fixed.few_cores) in
+        rw (add-one L.next, s.chosen.loads_are (suc L.next), some_empty_is t L.next four L.next (omega arith))
 
     -- core next + 1 is looked at
     module _ {over : ℕ} (ex : over ≡ excess (problem J)) (i : Improving over J.cores L.out L.bound L.next)
         {r : Bool} (fits : r ≡ ((permitted byte (L.next + 1) && leb (get_or L.loads L.next 0 + demand) J.capacity)
-        && not (eqb (get_or L.loads L.next 0) 0 && someZeroTwin L.loads rows L.next L.next))) where
-      core-looked : {t : Bool} → r ≡ t → Looked J L (L.next + 1) t
-      core-looked e = record {
+        && not (eqb (get_or L.loads L.next 0) 0 && some_zero_twin L.loads rows L.next L.next))) where
+      core_looked : {t : Bool} → r ≡ t → Looked J L (L.next + 1) t
+      core_looked e = record {
         state = s;
         within = omega arith;
-        choice-is = add-one L.next ∙ sym (choice-core J.cores L.next k);
-        tested = sym (test-is ex i.excess-below (L.next + 1) ∙ rw (ne_eqb (L.next + 1) 0 (λ z. omega arith), add-zero, held-core, lt-ltb L.out L.bound (i.out_below (omega arith)), and-true, tried-is) (sym fits ∙ e));
+        choice_is = add-one L.next ∙ sym (choice_core J.cores L.next k);
+        tested = sym (test_is ex i.excess-below (L.next + 1) ∙ rw (ne_eqb (L.next + 1) 0 (λ z. omega arith), add-zero, held_core, lt-ltb L.out L.bound (i.out_below (omega arith)), and-true, tried_is) (sym fits ∙ e));
       }
 
       -- it is not permitted, has no room for the task, or is empty and so is a lower twin
-      pub core-passed : not r ≡ true → Looked J L (L.next + 1) false
-      core-passed e = core-looked (not-true r e)
+      pub core_passed : not r ≡ true → Looked J L (L.next + 1) false
+      core_passed e = core_looked (not-true r e)
 
       -- it is entered
-      pub core-taken : not r ≡ false → Looked J L (L.next + 1) true
-      core-taken e = core-looked (not-false r e)
+      pub core_taken : not r ≡ false → Looked J L (L.next + 1) true
+      core_taken e = core_looked (not-false r e)
 
   none_tried : tried (problem J) node 0 ≡ true
-  unfolding tried someEmptyTwin
+  unfolding tried some_empty_twin
   none_tried = rw and-false
 
   -- leaving the task out is looked at
-  pub none-looked : J.cores ≤ L.next → L.next ≤ J.cores → {over : ℕ} → over ≡ excess (problem J)
+  pub none_looked : J.cores ≤ L.next → L.next ≤ J.cores → {over : ℕ} → over ≡ excess (problem J)
       → Improving over J.cores L.out L.bound L.next → {r : Bool} → leb L.bound (L.out + demand) ≡ r → Looked J L 0 (not r)
-  none-looked g k ex i e = record {
+  none_looked g k ex i e = record {
     state = s;
     within = k;
-    choice-is = let q : L.next ≡ J.cores = omega arith in rw q (sym (choice-none J.cores));
-    tested = rw (test-is ex i.excess-below 0, none_tried, and-true, ← e) (not-leb L.bound (L.out + demand));
+    choice_is = let q : L.next ≡ J.cores = omega arith in rw q (sym (choice_none J.cores));
+    tested = rw (test_is ex i.excess-below 0, none_tried, and-true, ← e) (not_leb L.bound (L.out + demand));
   }

@@ -1,8 +1,8 @@
 // The walk over placements as nested loops, on demands in planning order.
 ghost use Rattle.std.specs.Prelude.{◌≡◌, take};
-ghost use Rattle.allocation.specs.Placement.{problemOf};
+ghost use Rattle.allocation.specs.Placement.{problem_of};
 ghost use Rattle.allocation.specs.Walk.{answer};
-ghost use Rattle.walk.specs.Given.{Prepared, foundOf};
+ghost use Rattle.walk.specs.Given.{Prepared, found_of};
 
 // What the walk found: the stored placement in planning order, entries beyond the tasks 0.
 #[derive(Drop)]
@@ -28,7 +28,7 @@ pub fn walk(
     limit: u32,
 ) -> Found
     requires { Prepared demands affinity twins n m h total excess }
-    ensures { result ≡ foundOf (answer (problemOf h m (take n demands) (take n affinity)) limit) }
+    ensures { result ≡ found_of (answer (problem_of h m (take n demands) (take n affinity)) limit) }
 {
     let deepest = n - 1;
     let mut path = [0u8; 16];

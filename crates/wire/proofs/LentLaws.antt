@@ -7,7 +7,7 @@ use lib.Seq.{sets-eq, length-sets, length-take-le, take_at, drop_at, drop-drop, 
 use native.Mathlib.Nat.{add_assoc, mul-add, mul-one, mul-le-mul_left}
 use native.Mathlib.Numerals.{add-one, add-two, add-three}
 use native.Mathlib.Omega.{arith}
-use Rattle.wire.specs.Bytes.{bytes_of, bytesOfAll, over}
+use Rattle.wire.specs.Bytes.{bytes_of, bytes_of_all, over}
 use Rattle.wire.proofs.ReadBackLaws.{length-bytes}
 
 -- straight-line stores
@@ -19,10 +19,10 @@ pub over-two : (l : List ℕ) (i a b : ℕ) → i + 2 ≤ length l → set (set 
 unfolding over
 over-two l i a b h = rw (add-one i) (sets-eq (a ∷ b ∷ []) l i h)
 
-pub over-four : (l : List ℕ) (i a b c d : ℕ) → i + 4 ≤ length l
+pub over_four : (l : List ℕ) (i a b c d : ℕ) → i + 4 ≤ length l
     → set (set (set (set l i a) (i + 1) b) (i + 2) c) (i + 3) d ≡ over l i (a ∷ b ∷ c ∷ d ∷ [])
 unfolding over
-over-four l i a b c d h = rw (add-one i, add-two i, add-three i) (sets-eq (a ∷ b ∷ c ∷ d ∷ []) l i h)
+over_four l i a b c d h = rw (add-one i, add-two i, add-three i) (sets-eq (a ∷ b ∷ c ∷ d ∷ []) l i h)
 
 pub over_none : (l : List ℕ) (i : ℕ) → i ≤ length l → l ≡ over l i []
 unfolding over
@@ -51,8 +51,8 @@ over-over l i us vs fits =
     rw (t, d, length-append us vs, ← add_assoc i (length us) (length vs), append_assoc (take i l) us vs)
 
 -- one piece more, at the place that is named by its index
-pub over-next : (l : List ℕ) {o r : List ℕ} (i j : ℕ) (us vs : List ℕ) → o ≡ over l i us → r ≡ over o j vs → j ≡ i + length us → i + length us ≤ length l → r ≡ over l i (us ++ vs)
-over-next l i j us vs e q w h = q ∙ rw (e, w) (over-over l i us vs h)
+pub over_next : (l : List ℕ) {o r : List ℕ} (i j : ℕ) (us vs : List ℕ) → o ≡ over l i us → r ≡ over o j vs → j ≡ i + length us → i + length us ≤ length l → r ≡ over l i (us ++ vs)
+over_next l i j us vs e q w h = q ∙ rw (e, w) (over-over l i us vs h)
 
 -- A loop that puts n pieces of w bytes each from `at` on: after k turns `there k` stands there.
 pub record Put (l : List ℕ) (at n w : ℕ) (there : ℕ → List ℕ) (o : List ℕ) (k : ℕ) : Type 0 where
@@ -61,8 +61,8 @@ pub record Put (l : List ℕ) (at n w : ℕ) (there : ℕ → List ℕ) (o : Lis
   pub size : length o ≡ length l
   pub is : o ≡ over l at (there k)
 
-pub put-start : (l : List ℕ) (at n w : ℕ) (there : ℕ → List ℕ) → at + w * n ≤ length l → there 0 ≡ [] → Put l at n w there l 0
-put-start l at n w there h e = record { top = omega arith; fits = h; size = refl; is = rw e (over_none l at (omega arith)) }
+pub put_start : (l : List ℕ) (at n w : ℕ) (there : ℕ → List ℕ) → at + w * n ≤ length l → there 0 ≡ [] → Put l at n w there l 0
+put_start l at n w there h e = record { top = omega arith; fits = h; size = refl; is = rw e (over_none l at (omega arith)) }
 
 module _ {l : List ℕ} {at n w : ℕ} {there : ℕ → List ℕ} {o : List ℕ} {k : ℕ} where
   pub put_next : {r : List ℕ} (vs : List ℕ) → Put l at n w there o k → k < n → length (there k) ≡ w * k → length vs ≡ w
@@ -74,38 +74,38 @@ module _ {l : List ℕ} {at n w : ℕ} {there : ℕ → List ℕ} {o : List ℕ}
         top = omega arith;
         fits = s.fits;
         size = rw e (length_over o (at + w * k) vs (rw (each, s.size) room)) ∙ s.size;
-        is = rw more (over-next l at (at + w * k) (there k) vs s.is e (rw long) (rw long (omega arith)));
+        is = rw more (over_next l at (at + w * k) (there k) vs s.is e (rw long) (rw long (omega arith)));
       }
 
-  pub put-done : Put l at n w there o k → n ≤ k → o ≡ over l at (there n)
-  put-done s h = let e : k ≡ n = omega (arith, s.top) in rw e at s.is
+  pub put_done : Put l at n w there o k → n ≤ k → o ≡ over l at (there n)
+  put_done s h = let e : k ≡ n = omega (arith, s.top) in rw e at s.is
 
 -- The bytes of a row of numbers.
-bytes-append : (xs ys : List ℕ) → bytesOfAll (xs ++ ys) ≡ bytesOfAll xs ++ bytesOfAll ys
+bytes-append : (xs ys : List ℕ) → bytes_of_all (xs ++ ys) ≡ bytes_of_all xs ++ bytes_of_all ys
 bytes-append [] ys = refl
 bytes-append (x ∷ xs) ys = ap (λ l. bytes_of x ++ l) (bytes-append xs ys)
 
 -- The steps of `put_words` and `put_bytes` (`packing`): after k turns the first k entries of the row are there.
 module _ (row : List ℕ) (k : ℕ) (h : k < length row) where
-  front-next : take (k + 1) row ≡ take k row ++ get_or row k 0 ∷ []
-  front-next = rw add-one (take-suc row k 0 h)
+  front_next : take (k + 1) row ≡ take k row ++ get_or row k 0 ∷ []
+  front_next = rw add-one (take-suc row k 0 h)
 
   front_long : length (take k row) ≡ k
   front_long = length-take-le k row (omega arith)
 
   module _ {l : List ℕ} {at n : ℕ} {o r : List ℕ} where
-    pub words-next : Put l at n 4 (λ j. bytesOfAll (take j row)) o k → k < n → r ≡ over o (at + 4 * k) (bytes_of (get_or row k 0))
-        → Put l at n 4 (λ j. bytesOfAll (take j row)) r (k + 1)
-    words-next s g e =
+    pub words_next : Put l at n 4 (λ j. bytes_of_all (take j row)) o k → k < n → r ≡ over o (at + 4 * k) (bytes_of (get_or row k 0))
+        → Put l at n 4 (λ j. bytes_of_all (take j row)) r (k + 1)
+    words_next s g e =
         put_next (bytes_of (get_or row k 0)) s g (length-bytes (take k row) ∙ rw front_long) refl
-        (rw front-next (bytes-append (take k row) (get_or row k 0 ∷ []))) e
+        (rw front_next (bytes-append (take k row) (get_or row k 0 ∷ []))) e
 
     pub bytes_next : Put l at n 1 (λ j. take j row) o k → k < n → r ≡ set o (at + k) (get_or row k 0) → Put l at n 1 (λ j. take j row) r (k + 1)
     bytes_next s g e =
         let i : at + k ≡ at + 1 * k = omega arith in
-        put_next (get_or row k 0 ∷ []) s g (front_long ∙ omega arith) refl front-next
+        put_next (get_or row k 0 ∷ []) s g (front_long ∙ omega arith) refl front_next
         (e ∙ over-one o (at + k) (get_or row k 0) (omega (arith, s.fits, s.size)) ∙ ap (λ j. over o j (get_or row k 0 ∷ [])) i)
 
 -- the front of a row, from the front of an output
-pub front-put : (l row : List ℕ) (n : ℕ) {r : List ℕ} → n ≤ length row → r ≡ over l 0 (take n row) → r ≡ take n row ++ drop n l
-front-put l row n h e = e ∙ over-front l (take n row) ∙ rw (length-take-le n row h)
+pub front_put : (l row : List ℕ) (n : ℕ) {r : List ℕ} → n ≤ length row → r ≡ over l 0 (take n row) → r ≡ take n row ++ drop n l
+front_put l row n h e = e ∙ over-front l (take n row) ∙ rw (length-take-le n row h)

@@ -6,7 +6,7 @@ use native.Mathlib.Nat.{div-add-mod, div-div-eq-div-mul, div-lt_iff_lt-mul, mod-
 use native.Mathlib.Omega.{arith}
 use lib.ListN.{length, get_or, get_or-append}
 use lib.Seq.{get_or-append-add}
-use Rattle.wire.specs.Bytes.{le32, word_at, bytes_of, bytesOfAll, ReadBack, Words}
+use Rattle.wire.specs.Bytes.{le32, word_at, bytes_of, bytes_of_all, ReadBack, Words}
 
 -- four bytes make the number
 digits : (x : ℕ) → x < 4294967296 → x % 256 + 256 * (x / 256 % 256) + 65536 * (x / 65536 % 256) + 16777216 * (x / 16777216 % 256) ≡ x
@@ -44,16 +44,16 @@ first_word : (x : ℕ) (s : List ℕ) → x < 4294967296 → word_at (bytes_of x
 unfolding word_at
 first_word x s h = digits x h
 
-read-words : (xs : List ℕ) → Words xs → (behind : List ℕ) (k : ℕ) → k < length xs → word_at (bytesOfAll xs ++ behind) 0 k ≡ get_or xs k 0
-read-words [] w behind k h = absurd (omega arith)
-read-words (x ∷ xs) w behind zero h = first_word x (bytesOfAll xs ++ behind) w.0
-read-words (x ∷ xs) w behind (suc k) h =
-    next_word (bytes_of x ++ (bytesOfAll xs ++ behind)) k ∙ word-behind (bytes_of x) (bytesOfAll xs ++ behind) k ∙ read-words xs w.1 behind k (omega arith)
+read_words : (xs : List ℕ) → Words xs → (behind : List ℕ) (k : ℕ) → k < length xs → word_at (bytes_of_all xs ++ behind) 0 k ≡ get_or xs k 0
+read_words [] w behind k h = absurd (omega arith)
+read_words (x ∷ xs) w behind zero h = first_word x (bytes_of_all xs ++ behind) w.0
+read_words (x ∷ xs) w behind (suc k) h =
+    next_word (bytes_of x ++ (bytes_of_all xs ++ behind)) k ∙ word-behind (bytes_of x) (bytes_of_all xs ++ behind) k ∙ read_words xs w.1 behind k (omega arith)
 
 pub read_back : (xs : List ℕ) → Words xs → ReadBack xs
-read_back xs w = record { each = λ front behind k h. word-behind front (bytesOfAll xs ++ behind) k ∙ read-words xs w behind k h }
+read_back xs w = record { each = λ front behind k h. word-behind front (bytes_of_all xs ++ behind) k ∙ read_words xs w behind k h }
 
-pub length-bytes : (xs : List ℕ) → length (bytesOfAll xs) ≡ 4 * length xs
+pub length-bytes : (xs : List ℕ) → length (bytes_of_all xs) ≡ 4 * length xs
 length-bytes [] = refl
 length-bytes (x ∷ xs) = omega (arith, length-bytes xs)
 

@@ -18,13 +18,13 @@ abbrev pub bytes_of : ℕ → List ℕ
 bytes_of x = (x % 256) ∷ (x / 256 % 256) ∷ (x / 65536 % 256) ∷ (x / 16777216 % 256) ∷ []
 
 -- the bytes of numbers that stand one after another
-abbrev pub bytesOfAll : List ℕ → List ℕ
-bytesOfAll [] = []
-bytesOfAll (x ∷ xs) = bytes_of x ++ bytesOfAll xs
+abbrev pub bytes_of_all : List ℕ → List ℕ
+bytes_of_all [] = []
+bytes_of_all (x ∷ xs) = bytes_of x ++ bytes_of_all xs
 
 -- Numbers of 32 bits are read back from their bytes, whatever stands before and behind them.
 pub record ReadBack (xs : List ℕ) : Type 0 where
-  pub each : (front behind : List ℕ) (k : ℕ) → k < length xs → word_at (front ++ (bytesOfAll xs ++ behind)) (length front) k ≡ get_or xs k 0
+  pub each : (front behind : List ℕ) (k : ℕ) → k < length xs → word_at (front ++ (bytes_of_all xs ++ behind)) (length front) k ≡ get_or xs k 0
 
 -- every number is below 2 to the power of 32
 abbrev pub Words : List ℕ → Type 0

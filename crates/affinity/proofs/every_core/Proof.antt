@@ -1,5 +1,5 @@
 use borrow.Author.Rules.{rules}
-use Rattle.affinity.proofs.PermittedLaws.{every-shift, every-four}
+use Rattle.affinity.proofs.PermittedLaws.{every_shift, every_four}
 use Rattle.affinity.proofs.every_core.Statement.{statement}
 use Rattle.affinity.proofs.every_core.Tie as tie
 
@@ -13,10 +13,10 @@ shr-result : tie.Need-overflow-shr-result
 shr-result c = search rules
 
 returns : tie.Need-returns
-returns c = every-shift c.before.args.m c.if1.true
+returns c = every_shift c.before.args.m c.if1.true
 
 returns-2 : tie.Need-returns-2
-returns-2 c = every-four c.before.args.m c.if1.false
+returns-2 c = every_four c.before.args.m c.if1.false
 
 pub every-core-spec : {M : Type 1} → statement M
 every-core-spec = tie.close (tie.spec sub-result cast-result shr-result returns returns-2)

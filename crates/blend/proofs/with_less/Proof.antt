@@ -2,7 +2,7 @@
 use Prim.Native.Nat.{◌-◌}
 use native.Mathlib.Nat.{sub-zero}
 use borrow.Author.Rules.{rules}
-use Rattle.blend.proofs.OneCore.{OnCores, cores-start, cores-next, cores-done, cores-less}
+use Rattle.blend.proofs.OneCore.{OnCores, cores_start, cores_next, cores_done, cores_less}
 use Rattle.blend.proofs.with_less.Statement.{statement}
 use Rattle.blend.proofs.with_less.Tie as tie
 
@@ -14,8 +14,8 @@ decreases-loop c d loads₀ k₀ loads k = 4 - k
 
 pub with-less-spec : {M : Type 1} → statement M
 with-less-spec =
-    tie.close (tie.spec invariant-loop decreases-loop (λ c. cores-start ◌-◌ sub-zero _ _ _) (λ c. search rules) (λ c. search rules)
-    (λ c. search rules) (λ c. search rules) (λ c κs. search rules) (λ c. search (rules, cores-less)) (λ c. search rules) (λ c. search rules)
+    tie.close (tie.spec invariant-loop decreases-loop (λ c. cores_start ◌-◌ sub-zero _ _ _) (λ c. search rules) (λ c. search rules)
+    (λ c. search rules) (λ c. search rules) (λ c κs. search rules) (λ c. search (rules, cores_less)) (λ c. search rules) (λ c. search rules)
     (λ c. search rules) (λ c. search rules) (λ c. search rules)
-    (λ c. cores-next ◌-◌ sub-zero c.before.before.loop.invariant c.pick.ensures (search rules))
-    (λ c. cores-done ◌-◌ sub-zero c.before.loop.invariant (search rules) (search rules)))
+    (λ c. cores_next ◌-◌ sub-zero c.before.before.loop.invariant c.pick.ensures (search rules))
+    (λ c. cores_done ◌-◌ sub-zero c.before.loop.invariant (search rules) (search rules)))

@@ -1,6 +1,6 @@
 -- A row, filled from the front.
 use Prim.Native.Nat.{◌-◌}
-use Rattle.numbers.proofs.RowLaws.{Filled, fill_start, fill-next, fill_done}
+use Rattle.numbers.proofs.RowLaws.{Filled, fill_start, fill_next, fill_done}
 use Rattle.wire.specs.Bytes.{word_at}
 use Rattle.caseblocks.proofs.BlockLaws.{front-word}
 use borrow.Author.Rules.{rules}
@@ -17,4 +17,4 @@ pub numbers-of-spec : {M : Type 1} → statement M
 numbers-of-spec =
     tie.close (tie.spec invariant-loop decreases-loop (λ c. search (rules, fill_start)) (λ c. search rules) (λ c κs. search rules)
     (λ c. search rules) (λ c. search rules) (λ c. search rules) (λ c. search rules)
-    (λ c. search (rules, fill-next, front-word)) (λ c. search (rules, fill_done)))
+    (λ c. search (rules, fill_next, front-word)) (λ c. search (rules, fill_done)))

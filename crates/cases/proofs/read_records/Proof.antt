@@ -4,8 +4,8 @@ use mathlib.Core.Path.{◌≡◌, sym}
 use native.Mathlib.Omega.{arith}
 use lib.ListN.{length}
 use lib.Seq.{length-take-le}
-use Rattle.logwords.specs.Words.{recordsIn}
-use Rattle.logwords.proofs.WordLaws.{records-count, records-fit}
+use Rattle.logwords.specs.Words.{records_in}
+use Rattle.logwords.proofs.WordLaws.{records-count, records_fit}
 use borrow.Author.Rules.{rules}
 use Rattle.cases.proofs.read_records.Statement.{statement}
 use Rattle.cases.proofs.read_records.Tie as tie
@@ -18,8 +18,8 @@ returns-4 c =
     let ws = c.before.before.before.before.before.before.before.before.before.before.before.before.before.args.words.now in
     let m = c.before.before.before.before.before.before.word.result / 12 in
     let n = records-count ws in
-    let few : m ≤ length (recordsIn ws) = omega (arith, n, c.before.before.before.before.if3.false) in
-    let fits = records-fit ws m few in
+    let few : m ≤ length (records_in ws) = omega (arith, n, c.before.before.before.before.if3.false) in
+    let fits = records_fit ws m few in
     let same : length c.before.before.read-runs.new.0 ≡ length ws = c.before.before.read-runs.auto.0 in
     let there : 3 * m ≤ length c.before.before.read-runs.new.0 = omega (arith, fits, same) in
     (there, sym (length-take-le (3 * m) c.before.before.read-runs.new.0 there))

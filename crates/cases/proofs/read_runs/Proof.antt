@@ -3,14 +3,14 @@ use Prim.Native.Nat.{◌<◌, ◌≤◌, ◌-◌}
 use mathlib.Core.Path.{◌≡◌, ◌∙◌}
 use native.Mathlib.Omega.{arith}
 use lib.ListN.{length}
-use Rattle.logwords.specs.Words.{recordsIn}
+use Rattle.logwords.specs.Words.{records_in}
 use Rattle.logwords.proofs.WordLaws.{stored-count, stored-length}
 use borrow.Author.Rules.{rules}
 use Rattle.cases.proofs.read_runs.Statement.{statement}
 use Rattle.cases.proofs.read_runs.Tie as tie
 
 abbrev invariant-loop : tie.invariant-loop
-invariant-loop words₀ n k₀ words k = (k ≤ n) × ((n ≤ length (recordsIn words)) × (length words ≡ length words₀))
+invariant-loop words₀ n k₀ words k = (k ≤ n) × ((n ≤ length (records_in words)) × (length words ≡ length words₀))
 
 abbrev decreases-loop : tie.decreases-loop
 decreases-loop words₀ n k₀ words k = n - k
@@ -28,7 +28,7 @@ read-runs-spec =
     (λ c. search rules)
     (λ c. search rules)
     (λ c. let inv = c.before.before.before.before.before.before.before.before.before.before.before.loop.invariant in
-    let there : c.before.before.before.before.before.before.before.before.before.before.before.loop.k < length (recordsIn c.before.before.before.before.before.before.before.before.before.before.before.loop.words) = omega (arith, inv.1.0, c.before.before.before.before.before.before.before.before.before.before.loop-test.true) in
+    let there : c.before.before.before.before.before.before.before.before.before.before.before.loop.k < length (records_in c.before.before.before.before.before.before.before.before.before.before.before.loop.words) = omega (arith, inv.1.0, c.before.before.before.before.before.before.before.before.before.before.loop-test.true) in
     let kept = c.before.before.put-run.ensures in
     let n = stored-count c.before.before.before.before.before.before.before.before.before.before.before.loop.words c.before.before.before.before.before.before.before.before.before.before.before.loop.k c.before.before.before.run_in.result there in
     let l = stored-length c.before.before.before.before.before.before.before.before.before.before.before.loop.words c.before.before.before.before.before.before.before.before.before.before.before.loop.k c.before.before.before.run_in.result in

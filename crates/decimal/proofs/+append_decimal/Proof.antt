@@ -3,7 +3,7 @@ use Prim.Native.Nat.{ℕ, ◌<◌}
 use borrow.Author.Rules.{rules}
 use borrow.Fn.Kinds.{In}
 use borrow.Fn.PlainCycle.{Measures, is, falls, and}
-use Rattle.decimal.proofs.NumberLaws.{number-one, number_more}
+use Rattle.decimal.proofs.NumberLaws.{number_one, number_more}
 use Rattle.decimal.proofs.append_decimal.Reads as append-decimal
 use Rattle.decimal.proofs.append_decimal.Kinds as append-decimal-kinds
 use Rattle.decimal.proofs.+append_decimal.Lts-append_decimal as lts
@@ -33,7 +33,7 @@ pub +append-decimal-spec : {M : Type 1} → statement M
 +append-decimal-spec =
     close μ (λ t. lts.spec (claims t) (given t) append-decimal.Post (λ c κs. search rules) (λ c κs. search rules)
     (λ c. let start = c.before.before.before in
-    number-one start.args.x (search rules) c.before.digit.ensures c.before.before.if1.true c.append-byte.ensures)
+    number_one start.args.x (search rules) c.before.digit.ensures c.before.before.if1.true c.append-byte.ensures)
     (λ c κs. search rules) (λ c κs. search rules) (λ c κs. search rules)
     (λ c. let start = c.before.before.before.before in
     number_more start.args.x (search rules) c.before.digit2.ensures c.before.before.before.if1.false

@@ -4,7 +4,7 @@ use mathlib.Core.Path.{refl}
 use lib.ListN.{length}
 use native.Mathlib.Omega.{arith}
 use Rattle.decimal.specs.Decimal.{field}
-use Rattle.decimal.proofs.JoinLaws.{Joined, join-start, join-next, join-done}
+use Rattle.decimal.proofs.JoinLaws.{Joined, join_start, join_next, join_done}
 use borrow.Author.Rules.{rules}
 use Rattle.decimal.proofs.append_numbers.Statement.{statement}
 use Rattle.decimal.proofs.append_numbers.Tie as tie
@@ -17,6 +17,6 @@ decreases-loop bytes longer₀ k₀ longer k = length bytes - k
 
 pub append-numbers-spec : {M : Type 1} → statement M
 append-numbers-spec =
-    tie.close (tie.spec invariant-loop decreases-loop (λ c. join-start _ _ _ _ _ (search rules) refl) (λ c. search rules)
+    tie.close (tie.spec invariant-loop decreases-loop (λ c. join_start _ _ _ _ _ (search rules) refl) (λ c. search rules)
     (λ c. omega (arith, c.shared-slice-known2.given c.before.before.loop.k)) (λ c κs. search rules)
-    (λ c. search rules) (λ c. search rules) (λ c. join-next _ c.before.before.before.loop.invariant c.before.before.loop-test.true c.append-field.ensures) (λ c. search (rules, join-done)))
+    (λ c. search rules) (λ c. search rules) (λ c. join_next _ c.before.before.before.loop.invariant c.before.before.loop-test.true c.append-field.ensures) (λ c. search (rules, join_done)))

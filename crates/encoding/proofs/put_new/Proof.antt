@@ -1,7 +1,7 @@
 -- Four bytes, then piece after piece behind them.
 use native.Mathlib.Omega.{arith}
 use lib.ListN.{length-set}
-use Rattle.encoding.proofs.PutLaws.{periods-room, budgets-room, affinity-room, new-same, new-put}
+use Rattle.encoding.proofs.PutLaws.{periods_room, budgets_room, affinity_room, new-same, new_put}
 use borrow.Author.Rules.{rules}
 use Rattle.encoding.proofs.put_new.Statement.{statement}
 use Rattle.encoding.proofs.put_new.Tie as tie
@@ -9,22 +9,22 @@ use Rattle.encoding.proofs.put_new.Tie as tie
 returns : tie.Need-returns
 returns c =
     let start = c.before.before.before.before.before.before.before.before.before.before.before.before.before.before.before.before.before.before in
-    new-put _ start.requires.0 start.args.out.now start.requires.1 c.before.before.before.before.before.before.before.before.before.before.put-words.ensures c.before.before.before.before.before.before.put-words2.ensures c.before.before.put-bytes.ensures
+    new_put _ start.requires.0 start.args.out.now start.requires.1 c.before.before.before.before.before.before.before.before.before.before.put-words.ensures c.before.before.before.before.before.before.put-words2.ensures c.before.before.put-bytes.ensures
 
 put-words-requires : tie.Need-put-words-requires
 put-words-requires c κs =
     let start = c.before.before.before.before.before.before.before in
-    periods-room _ start.requires.0 start.args.out.now start.requires.1
+    periods_room _ start.requires.0 start.args.out.now start.requires.1
 
 put-words-requires-2 : tie.Need-put-words-requires-2
 put-words-requires-2 c κs =
     let start = c.before.before.before.before.before.before.before.before.before.before.before in
-    budgets-room _ start.requires.0 start.args.out.now start.requires.1 c.before.before.before.put-words.ensures
+    budgets_room _ start.requires.0 start.args.out.now start.requires.1 c.before.before.before.put-words.ensures
 
 put-bytes-requires : tie.Need-put-bytes-requires
 put-bytes-requires c κs =
     let start = c.before.before.before.before.before.before.before.before.before.before.before.before.before.before.before in
-    affinity-room _ start.requires.0 start.args.out.now start.requires.1 c.before.before.before.before.before.before.before.put-words.ensures c.before.before.before.put-words2.ensures
+    affinity_room _ start.requires.0 start.args.out.now start.requires.1 c.before.before.before.before.before.before.before.put-words.ensures c.before.before.before.put-words2.ensures
 
 same_length : tie.Need-same-length
 same_length c =

@@ -1,6 +1,6 @@
 -- The pairs so far are in the cells.
 use Prim.Native.Nat.{◌-◌}
-use Rattle.feeding.proofs.ListLaws.{Gathering, gather-start, gather-next, gather-done}
+use Rattle.feeding.proofs.ListLaws.{Gathering, gather_start, gather_next, gather_done}
 use borrow.Author.Rules.{rules}
 use Rattle.feeding.proofs.relation_of.Statement.{statement}
 use Rattle.feeding.proofs.relation_of.Tie as tie
@@ -13,7 +13,7 @@ decreases-loop list k cells₀ i₀ cells i = k - i
 
 pub relation-of-spec : {M : Type 1} → statement M
 relation-of-spec =
-    tie.close (tie.spec invariant-loop decreases-loop (λ c κs. search rules) (λ c. gather-start _ _) (λ c κs. search rules)
-    (λ c κs. search rules) (λ c κs. search rules) (λ c. search rules) (λ c. search rules) (λ c. gather-next c.before.before.before.before.loop.invariant c.before.before.before.loop-test.true
+    tie.close (tie.spec invariant-loop decreases-loop (λ c κs. search rules) (λ c. gather_start _ _) (λ c κs. search rules)
+    (λ c κs. search rules) (λ c κs. search rules) (λ c. search rules) (λ c. search rules) (λ c. gather_next c.before.before.before.before.loop.invariant c.before.before.before.loop-test.true
     c.before.before.feeding.ensures.0 c.before.fed.ensures.0 c.with_pair.ensures)
-    (λ c. search (rules, gather-done)))
+    (λ c. search (rules, gather_done)))

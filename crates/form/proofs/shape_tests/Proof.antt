@@ -1,13 +1,13 @@
 -- The tests are joined in their order.
 use mathlib.Core.Path.{◌∙◌, ap, ap₂}
 use Rattle.refusal.specs.Tests.{◌then◌}
-use Rattle.form.specs.Shape.{shapeOutcome}
+use Rattle.form.specs.Shape.{shape_outcome}
 use borrow.Author.Rules.{rules}
 use Rattle.form.proofs.shape_tests.Statement.{statement}
 use Rattle.form.proofs.shape_tests.Tie as tie
 
 returns : tie.Need-returns
-unfolding shapeOutcome
+unfolding shape_outcome
 returns c =
     let exact = c.before.before in
     let front = exact.before.before.before.args.front in

@@ -1,19 +1,19 @@
 -- A search for the first task with an unfit core byte.
 use Prim.Native.Nat.{◌-◌}
-use Rattle.numbers.proofs.FirstLaws.{Seeking, seek-start, seek-none, looked-on, looked-found}
-use Rattle.fields.specs.Tests.{badAffinity}
+use Rattle.numbers.proofs.FirstLaws.{Seeking, seek_start, seek_none, looked_on, looked_found}
+use Rattle.fields.specs.Tests.{bad_affinity}
 use borrow.Author.Rules.{rules}
 use Rattle.limits.proofs.first_bad_affinity.Statement.{statement}
 use Rattle.limits.proofs.first_bad_affinity.Tie as tie
 
 abbrev invariant-loop : tie.invariant-loop
-invariant-loop f k₀ k = Seeking (badAffinity f) f.n k
+invariant-loop f k₀ k = Seeking (bad_affinity f) f.n k
 
 abbrev decreases-loop : tie.decreases-loop
 decreases-loop f k₀ k = f.n - k
 
 pub first-bad-affinity-spec : {M : Type 1} → statement M
 first-bad-affinity-spec =
-    tie.close (tie.spec invariant-loop decreases-loop (λ c. search (rules, seek-start)) (λ c κs. search rules) (λ c. search rules)
-    (λ c. search (rules, looked-found)) (λ c. search rules) (λ c. search rules) (λ c. search (rules, looked-on))
-    (λ c. search (rules, seek-none)))
+    tie.close (tie.spec invariant-loop decreases-loop (λ c. search (rules, seek_start)) (λ c κs. search rules) (λ c. search rules)
+    (λ c. search (rules, looked_found)) (λ c. search rules) (λ c. search rules) (λ c. search (rules, looked_on))
+    (λ c. search (rules, seek_none)))

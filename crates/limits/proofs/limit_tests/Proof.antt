@@ -1,5 +1,5 @@
 -- The tests are joined in their order.
-use Rattle.refusal.proofs.TestLaws.{order-step, order-last}
+use Rattle.refusal.proofs.TestLaws.{order_step, order_last}
 use borrow.Author.Rules.{rules}
 use Rattle.limits.proofs.limit_tests.Statement.{statement}
 use Rattle.limits.proofs.limit_tests.Tie as tie
@@ -13,13 +13,13 @@ returns c =
     let costs = row.before in
     let budgets = costs.before in
     let periods = budgets.before in
-    order-step _ c.then6.ensures periods.before.charge-test.ensures
-    (order-step _ c.before.then5.ensures periods.periods-test.ensures
-    (order-step _ c.before.before.then4.ensures budgets.budgets-test.ensures
-    (order-step _ c.before.before.before.then3.ensures costs.costs-test.ensures
-    (order-step _ c.before.before.before.before.then2.ensures row.row-test.ensures
-    (order-step _ joined.then.ensures affinity.affinity-test.ensures
-    (order-last hyperperiod.hyperperiod-test.ensures))))))
+    order_step _ c.then6.ensures periods.before.charge-test.ensures
+    (order_step _ c.before.then5.ensures periods.periods-test.ensures
+    (order_step _ c.before.before.then4.ensures budgets.budgets-test.ensures
+    (order_step _ c.before.before.before.then3.ensures costs.costs-test.ensures
+    (order_step _ c.before.before.before.before.then2.ensures row.row-test.ensures
+    (order_step _ joined.then.ensures affinity.affinity-test.ensures
+    (order_last hyperperiod.hyperperiod-test.ensures))))))
 
 pub limit-tests-spec : {M : Type 1} → statement M
 limit-tests-spec =

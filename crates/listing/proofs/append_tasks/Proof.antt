@@ -1,5 +1,5 @@
 -- After k turns the lines of the first k tasks are there.
-use Rattle.listing.proofs.LineLaws.{Written, lines_start, lines_next, lines-done}
+use Rattle.listing.proofs.LineLaws.{Written, lines_start, lines_next, lines_done}
 use Prim.Native.Nat.{◌-◌}
 use borrow.Author.Rules.{rules}
 use Rattle.listing.proofs.append_tasks.Statement.{statement}
@@ -16,4 +16,4 @@ append-tasks-spec =
     tie.close (tie.spec invariant-loop decreases-loop (λ c. search (rules, lines_start)) (λ c. search rules) (λ c. search rules)
     (λ c. search rules) (λ c. search rules) (λ c. search rules) (λ c. search rules) (λ c. search rules)
     (λ c κs. search rules) (λ c. search rules) (λ c. search rules) (λ c. search (rules, lines_next))
-    (λ c. search (rules, lines-done)))
+    (λ c. search (rules, lines_done)))

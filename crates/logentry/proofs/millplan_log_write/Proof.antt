@@ -9,13 +9,13 @@ use Rattle.runs.specs.declared.Run.{Run}
 use Rattle.runs.specs.declared.Logged.{Logged}
 use Rattle.refusal.specs.Causes.{number_in}
 use Rattle.refusal.specs.Conditions.{Decides}
-use Rattle.recording.specs.Tests.{writeAnswer, logAfter}
-use Rattle.recording.specs.Limits.{Writable, writeConditions}
+use Rattle.recording.specs.Tests.{write_answer, log_after}
+use Rattle.recording.specs.Limits.{Writable, write_conditions}
 use Rattle.recording.specs.Promise.{Writes}
-use Rattle.recording.proofs.PromiseLaws.{write-decides, writes}
-use Rattle.logentry.specs.Reply.{replyOf}
+use Rattle.recording.proofs.PromiseLaws.{write_decides, writes}
+use Rattle.logentry.specs.Reply.{reply_of}
 use Rattle.logentry.specs.declared.Reply.{Reply}
-use Rattle.logentry.proofs.ReplyLaws.{Fits, reply-decides, reply-says, write-fits}
+use Rattle.logentry.proofs.ReplyLaws.{Fits, reply_decides, reply_says, write_fits}
 use Rattle.runs.specs.contracts.Run as T
 use Rattle.runs.specs.contracts.Logged as L
 use Rattle.runs.proofs.Logged.TheLaws as L'
@@ -64,8 +64,8 @@ module _ {M : Type 1} {𝓤 : Ura M} (𝓛 : Logic 𝓤) (at_mem : Memory → SP
   InNumbers = triple_of 𝓛 in-numbers.signature (in-numbers.spec 𝓛 at_mem run)
 
   -- of the second's `ensured`, the clause alone
-  replied : (c : Logged) (r : Reply) → ent 𝓤 (ensured 𝓛 in-numbers.ended (in-numbers.clauses 𝓛 at_mem run) tt (c, tt) tt r) (fact 𝓤 (r ≡ replyOf c))
-  replied c r = ex_e 𝓤 _ (λ ws. snd∗ 𝓤 (sem 𝓛 (lasts in-numbers.ended tt (c, tt) ws)) (fact 𝓤 (r ≡ replyOf c)))
+  replied : (c : Logged) (r : Reply) → ent 𝓤 (ensured 𝓛 in-numbers.ended (in-numbers.clauses 𝓛 at_mem run) tt (c, tt) tt r) (fact 𝓤 (r ≡ reply_of c))
+  replied c r = ex_e 𝓤 _ (λ ws. snd∗ 𝓤 (sem 𝓛 (lasts in-numbers.ended tt (c, tt) ws)) (fact 𝓤 (r ≡ reply_of c)))
 
 module _ {M : Type 1} {𝓤 : Ura M} (𝓛 : Logic 𝓤) (at_mem : Memory → SProp 𝓤) (run : Routine → Fun 𝓤) (κ κ' : Lft) (q q' : Share) (b o : ℕ) (γ : GName) (xs : List ℕ) (b' o' : ℕ) (γ' : GName) (ys : List Run) where
   open 𝓛 use {H}
@@ -100,29 +100,29 @@ module _ {M : Type 1} {𝓤 : Ura M} (𝓛 : Logic 𝓤) (at_mem : Memory → SP
   abbrev Row : List Run → Fml
   Row l = (MutSlice (named 1) κ' T.the_row).own_val (x γ' l) (w ∷ [])
 
-  exits : (c : Logged) (r : Reply) (l : List Run) → c ≡ writeAnswer xs (length ys) → r ≡ replyOf c → l ≡ logAfter xs ys → length l ≡ length ys → Is R.the_row r (told r ∷ [])
+  exits : (c : Logged) (r : Reply) (l : List Run) → c ≡ write_answer xs (length ys) → r ≡ reply_of c → l ≡ log_after xs ys → length l ≡ length ys → Is R.the_row r (told r ∷ [])
       → ent 𝓤 (⋆ 𝓛 (‵ (Row l) ∷ ‵ (flft κ' q') ∷ ‵ (flft κ q) ∷ ‵ Own ∷ [])) (Post (told r))
   exits c r l ec er el len is =
       qed 𝓛 (‵ (Row l) ∷ ‵ (flft κ' q') ∷ ‵ (flft κ q) ∷ ‵ Own ∷ []) ∵
       suffices ! _ (ends_at 𝓛 f.ended stayed (f.clauses 𝓛 at_mem run) (((κ, (κ', tt)), (q, (q', tt)), tt, args, at), tt) (told r) r (tt, (l, tt)) (tt, (len, tt))) $
       -- the clauses, in the contract's order
-      states ! (also (er ∙ ap replyOf ec) (also el (also (reply-decides c er (write-decides xs (length ys) ec)) (last (reply-says c er (λ (n k : ℕ). Writes xs ys n k l) (writes xs ys ec el)))))) $
+      states ! (also (er ∙ ap reply_of ec) (also el (also (reply_decides c er (write_decides xs (length ys) ec)) (last (reply_says c er (λ (n k : ℕ). Writes xs ys n k l) (writes xs ys ec el)))))) $
       nothing ! $ move ! (2 ∷ 0 ∷ []) $ join ! $ move ! (2 ∷ 0 ∷ []) $ join ! $ frame ! $
       nothing ! $ move ! (1 ∷ 0 ∷ []) $ fjoin ! $ move ! (1 ∷ 0 ∷ []) $ fjoin ! $ frame ! $ owned ! R.the_row (Is R.the_row) (LL.makes R.the_type R'.the_plain 𝓛) r _ is $ done !
 
   -- the calls: what each triple binds outside, and what it asks
-  abbrev to-log : ℕ → GName → (Log 𝓛 at_mem run).Ghost
-  to-log ν δ = (((κ, (ν ∷ [], tt)), (q, (full_share, tt)), tt, (s, (x δ ys, tt)), at), tt)
+  abbrev to_log : ℕ → GName → (Log 𝓛 at_mem run).Ghost
+  to_log ν δ = (((κ, (ν ∷ [], tt)), (q, (full_share, tt)), tt, (s, (x δ ys, tt)), at), tt)
 
-  goes-log : (ν : ℕ) (δ : GName)
-      → ent 𝓤 (⋆ 𝓛 ((‵ (flft κ q) ⊛ ‵ (flft (ν ∷ []) full_share) ⊛ ‵ ftrue) ∷ ‵ (owns (ShrSlice (named 0) κ u8 ∷ MutSlice (named 1) (ν ∷ []) T.the_row ∷ []) (s, (x δ ys, tt)) at) ∷ [])) ((Log 𝓛 at_mem run).pre (to-log ν δ))
-  goes-log ν δ = qed 𝓛 ((‵ (flft κ q) ⊛ ‵ (flft (ν ∷ []) full_share) ⊛ ‵ ftrue) ∷ ‵ (owns (ShrSlice (named 0) κ u8 ∷ MutSlice (named 1) (ν ∷ []) T.the_row ∷ []) (s, (x δ ys, tt)) at) ∷ []) ∵ join ! $ frame ! $ done !
+  goes_log : (ν : ℕ) (δ : GName)
+      → ent 𝓤 (⋆ 𝓛 ((‵ (flft κ q) ⊛ ‵ (flft (ν ∷ []) full_share) ⊛ ‵ ftrue) ∷ ‵ (owns (ShrSlice (named 0) κ u8 ∷ MutSlice (named 1) (ν ∷ []) T.the_row ∷ []) (s, (x δ ys, tt)) at) ∷ [])) ((Log 𝓛 at_mem run).pre (to_log ν δ))
+  goes_log ν δ = qed 𝓛 ((‵ (flft κ q) ⊛ ‵ (flft (ν ∷ []) full_share) ⊛ ‵ ftrue) ∷ ‵ (owns (ShrSlice (named 0) κ u8 ∷ MutSlice (named 1) (ν ∷ []) T.the_row ∷ []) (s, (x δ ys, tt)) at) ∷ []) ∵ join ! $ frame ! $ done !
 
-  abbrev to-reply : Logged → (InNumbers 𝓛 at_mem run).Ghost
-  to-reply c = ((tt, tt, tt, (c, tt), (said c ∷ [], tt)), tt)
+  abbrev to_reply : Logged → (InNumbers 𝓛 at_mem run).Ghost
+  to_reply c = ((tt, tt, tt, (c, tt), (said c ∷ [], tt)), tt)
 
-  goes-reply : (c : Logged) → Fits c → Is L.the_row c (said c ∷ []) → ent 𝓤 (sem 𝓛 ftrue) ((InNumbers 𝓛 at_mem run).pre (to-reply c))
-  goes-reply c fits is = qed 𝓛 (‵ ftrue ∷ []) ∵ says ! fits $ frame ! $ nothing ! $ owned ! L.the_row (Is L.the_row) (LL.makes L.the_type L'.the_plain 𝓛) c _ is $ fjoin ! $ done !
+  goes_reply : (c : Logged) → Fits c → Is L.the_row c (said c ∷ []) → ent 𝓤 (sem 𝓛 ftrue) ((InNumbers 𝓛 at_mem run).pre (to_reply c))
+  goes_reply c fits is = qed 𝓛 (‵ ftrue ∷ []) ∵ says ! fits $ frame ! $ nothing ! $ owned ! L.the_row (Is L.the_row) (LL.makes L.the_type L'.the_plain 𝓛) c _ is $ fjoin ! $ done !
 
   module _ (gx : Room u8 (length xs)) (gy : Room T.the_row (length ys)) (𝓣 : Tables 𝓤 H) (known-log : Triple 𝓤 (𝓣.C #runlog·write-log) (Log 𝓛 at_mem run))
       (known-reply : Triple 𝓤 (𝓣.C #logentry·in-numbers) (InNumbers 𝓛 at_mem run)) (l₀ l₁ l₂ l₃ l₄ l₅ : ℕ) where
@@ -141,13 +141,13 @@ module _ {M : Type 1} {𝓤 : Ura M} (𝓛 : Logic 𝓤) (at_mem : Memory → SP
         ∷ ‵ (fat full_share records l₂ 0 w) ∷ ‵ (fdies records l₂) ∷ ‵ (fat full_share bytes l₁ 0 v) ∷ ‵ (fdies bytes l₁) ∷ ‵ (froom R'.mir l₀ 0) ∷ ‵ (fdies R'.mir l₀) ∷ []
 
     -- the second call, and the return
-    replies : (c : Logged) (l : List Run) → c ≡ writeAnswer xs (length ys) → l ≡ logAfter xs ys → length l ≡ length ys → Is L.the_row c (said c ∷ [])
+    replies : (c : Logged) (l : List Run) → c ≡ write_answer xs (length ys) → l ≡ log_after xs ys → length l ≡ length ys → Is L.the_row c (said c ∷ [])
         → Sq 𝓛 (‵ (Row l) ∷ ‵ (flft κ' q') ∷ ‵ (flft κ q) ∷ ‵ Own ∷ Locals (fat full_share L'.mir l₃ 0 (said c))) (runs C Λ En code-mir.t-4 (at_ret En Post))
     replies c l ec el len isc =
-        nothing ! $ use1 𝓛 (raw ((InNumbers 𝓛 at_mem run).pre (to-reply c))) (goes-reply c (write-fits xs (length ys) ec) isc) $
-        calls_at ! (fm_of 𝓤 H 𝓛.laws 𝓣) (InNumbers 𝓛 at_mem run) known-reply (to-reply c) (and_then ! (load ! (from ! (stop !)) (look ! 9 refl)) (no_more !)) (λ u.
+        nothing ! $ use1 𝓛 (raw ((InNumbers 𝓛 at_mem run).pre (to_reply c))) (goes_reply c (write_fits xs (length ys) ec) isc) $
+        calls_at ! (fm_of 𝓤 H 𝓛.laws 𝓣) (InNumbers 𝓛 at_mem run) known-reply (to_reply c) (and_then ! (load ! (from ! (stop !)) (look ! 9 refl)) (no_more !)) (λ u.
         use1 𝓛 (later (some (λ (r : Reply). (‵ ftrue ⊛ ‵ ((R.the_row).own_val r (u ∷ []))) ⊛ raw (ensured 𝓛 in-numbers.ended (in-numbers.clauses 𝓛 at_mem run) tt (c, tt) tt r)))) (id⊢ 𝓤 _) $ await ! tt $ pick ! (λ r.
-        split ! $ move ! (1 ∷ []) $ use1 𝓛 (raw (fact 𝓤 (r ≡ replyOf c))) (replied 𝓛 at_mem run c r) $ heard ! (r ≡ replyOf c) (λ er. split ! $ drops ! $
+        split ! $ move ! (1 ∷ []) $ use1 𝓛 (raw (fact 𝓤 (r ≡ reply_of c))) (replied 𝓛 at_mem run c r) $ heard ! (r ≡ reply_of c) (λ er. split ! $ drops ! $
         peeks ! R.the_row (Is R.the_row) (shows 𝓛 R.the_row) r (u ∷ []) (λ is.
         drops ! $ land ! (from ! (stop !)) (init ! 14 refl ((LL.lawful R.the_type R'.the_laws 𝓛).typed r _ is).0) $
         rewrite ! 14 (λ (y : Val). ‵ (fat full_share R'.mir l₀ 0 y)) (ap only (LL.tells R.the_type R'.the_laws r (u ∷ []) is)) refl $
@@ -167,12 +167,12 @@ module _ {M : Type 1} {𝓤 : Ura M} (𝓛 : Logic 𝓤) (at_mem : Memory → SP
         move ! (5 ∷ []) $ split ! $ move ! (6 ∷ 1 ∷ []) $ join ! $ move ! (1 ∷ 0 ∷ []) $ join ! $
         -- [the tokens; what the parameter owns, twice; the new slice; what was lent; _5; …]
         nothing ! $ move ! (4 ∷ 0 ∷ []) $ fjoin ! $ move ! (2 ∷ 0 ∷ []) $ fjoin ! $ move ! (1 ∷ 0 ∷ []) $
-        use2 𝓛 (raw ((Log 𝓛 at_mem run).pre (to-log ν δ))) (goes-log ν δ) $
-        calls_at ! (fm_of 𝓤 H 𝓛.laws 𝓣) (Log 𝓛 at_mem run) known-log (to-log ν δ) (and_then ! (load ! (from ! (stop !)) (look ! 11 refl)) (and_then ! (load ! (from ! (stop !)) (look ! 3 refl)) (no_more !))) (λ u.
+        use2 𝓛 (raw ((Log 𝓛 at_mem run).pre (to_log ν δ))) (goes_log ν δ) $
+        calls_at ! (fm_of 𝓤 H 𝓛.laws 𝓣) (Log 𝓛 at_mem run) known-log (to_log ν δ) (and_then ! (load ! (from ! (stop !)) (look ! 11 refl)) (and_then ! (load ! (from ! (stop !)) (look ! 3 refl)) (no_more !))) (λ u.
         use1 𝓛 (later (some (λ (c : Logged). ((‵ (flft κ q) ⊛ ‵ (flft (ν ∷ []) full_share) ⊛ ‵ ftrue) ⊛ ‵ ((L.the_row).own_val c (u ∷ []))) ⊛ raw (ensured 𝓛 log.ended (log.clauses 𝓛 at_mem run) (κ, (ν ∷ [], tt)) (s, (x δ ys, tt)) tt c)))) (id⊢ 𝓤 _) $ await ! tt $ pick ! (λ c.
         -- what the call ensures, at some last list
-        split ! $ move ! (1 ∷ []) $ use1 𝓛 (some (λ (zs : Unit {0} × (List Run × Unit {0})). ‵ (lasts log.ended (κ, (ν ∷ [], tt)) (s, (x δ ys, tt)) zs) ⊛ (raw (fact 𝓤 (c ≡ writeAnswer xs (length ys))) ⊛ (raw (fact 𝓤 (zs.1.0 ≡ logAfter xs ys)) ⊛ raw (sep 𝓤 (fact 𝓤 (Decides (Writable xs (length ys)) (writeConditions xs (length ys)) c.outcome)) (fact 𝓤 (Writes xs ys (number_in c.outcome) c.count zs.1.0))))))) (id⊢ 𝓤 _) $ pick ! (λ zs.
-        split ! $ move ! (1 ∷ []) $ split ! $ heard ! (c ≡ writeAnswer xs (length ys)) (λ ec. split ! $ heard ! (zs.1.0 ≡ logAfter xs ys) (λ e. drops ! $
+        split ! $ move ! (1 ∷ []) $ use1 𝓛 (some (λ (zs : Unit {0} × (List Run × Unit {0})). ‵ (lasts log.ended (κ, (ν ∷ [], tt)) (s, (x δ ys, tt)) zs) ⊛ (raw (fact 𝓤 (c ≡ write_answer xs (length ys))) ⊛ (raw (fact 𝓤 (zs.1.0 ≡ log_after xs ys)) ⊛ raw (sep 𝓤 (fact 𝓤 (Decides (Writable xs (length ys)) (write_conditions xs (length ys)) c.outcome)) (fact 𝓤 (Writes xs ys (number_in c.outcome) c.count zs.1.0))))))) (id⊢ 𝓤 _) $ pick ! (λ zs.
+        split ! $ move ! (1 ∷ []) $ split ! $ heard ! (c ≡ write_answer xs (length ys)) (λ ec. split ! $ heard ! (zs.1.0 ≡ log_after xs ys) (λ e. drops ! $
         fsplit ! $ move ! (1 ∷ []) $ fsplit ! $ fsplit ! $ move ! (1 ∷ []) $ feq_l ! (λ l.
         -- [the last list; other lasts, twice; the tokens with the result; what the parameter owns; what was lent; _5; …]
         move ! (3 ∷ []) $ split ! $ move ! (1 ∷ []) $ peeks ! L.the_row (Is L.the_row) (shows 𝓛 L.the_row) c (u ∷ []) (λ is.
@@ -210,9 +210,9 @@ module _ {M : Type 1} {𝓤 : Ura M} (𝓛 : Logic 𝓤) (at_mem : Memory → SP
       walk_Meets 𝓛 f.ended stayed (Goes-none_slice 𝓛 2 (0 ∷ []) tt (plain (λ _. u8)) yes, (Goes-slice 𝓛 2 1 tt (plain (λ _. T.the_row)), tt))
       (f.clauses 𝓛 at_mem run) (WpFn 𝓤 H 𝓣.C 𝓣.Λ code.function) (WpFn-mono 𝓤 H 𝓛.laws 𝓣 code.function) walks
 
-pub millplan-log-write-spec : {M : Type 1} → stated.statement M
+pub millplan_log_write_spec : {M : Type 1} → stated.statement M
 unfolding code.routine tables_of
-millplan-log-write-spec 𝓤 𝓛 𝓜 𝓡 =
+millplan_log_write_spec 𝓤 𝓛 𝓜 𝓡 =
     entered 𝓤 𝓛.H (triple_of 𝓛 f.signature (f.spec 𝓛 𝓜.mem 𝓡.run))
     (tables 𝓤 𝓛.H 𝓜 𝓡 code.env).C (tables 𝓤 𝓛.H 𝓜 𝓡 code.env).Λ #logentry·millplan-log-write code.function (code.unfolded 𝓤 𝓛.H 𝓜 𝓡)
     (meets 𝓛 𝓜.mem 𝓡.run (tables_of 𝓤 𝓛.H 𝓜 (tables 𝓤 𝓛.H 𝓜 𝓡 code.env))

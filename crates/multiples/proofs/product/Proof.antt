@@ -6,10 +6,10 @@ use borrow.Author.Rules.{rules}
 use Rattle.multiples.proofs.product.Statement.{statement}
 use Rattle.multiples.proofs.product.Tie as tie
 
-product-fits : (k : ℕ) {a b : ℕ} → a < 2 ^ k → b < 2 ^ k → a * b < 2 ^ (k + k)
-product-fits k {a} ha hb =
+product_fits : (k : ℕ) {a b : ℕ} → a < 2 ^ k → b < 2 ^ k → a * b < 2 ^ (k + k)
+product_fits k {a} ha hb =
     rw pow-add (lt_of_le_of_lt (mul-le-mul_left a (le_of_lt hb)) (mul-lt-mul_of_pos_right ha (pow_pos k)))
 
 pub product-spec : {M : Type 1} → statement M
 product-spec =
-    tie.close (tie.spec (λ c. record { fits = product-fits 32 (search rules) (search rules) }) (λ c. search rules))
+    tie.close (tie.spec (λ c. record { fits = product_fits 32 (search rules) (search rules) }) (λ c. search rules))

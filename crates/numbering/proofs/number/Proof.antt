@@ -1,6 +1,6 @@
 -- Each cause has its number.
 use mathlib.Core.Path.{refl}
-use Rattle.refusal.proofs.CauseLaws.{number-of}
+use Rattle.refusal.proofs.CauseLaws.{number_of_lem}
 use Rattle.numbering.proofs.number.Statement.{statement}
 use Rattle.numbering.proofs.number.Tie as tie
 
@@ -10,11 +10,11 @@ number-spec =
     (λ c. c.match.keys5) (λ c. c.match.keys6) (λ c. c.match.keys7) (λ c. c.match.keys8) (λ c. c.match.keys9)
     (λ c. c.match.keys10) (λ c. c.match.keys11) (λ c. c.match.keys12) (λ c. c.match.keys13) (λ c. c.match.keys14)
     (λ c. c.match.keys15) (λ c. c.match.keys16) (λ c. c.match.keys17) (λ c. c.match.keys18) (λ c. c.match.keys19)
-    (λ c. c.match.keys20) (λ c. c.match.keys21) (λ c. c.match.keys22) (λ c. c.match.keys23) (λ c. c.match.keys24) (λ c. c.match.keys25) (λ c. number-of c.enum_told.given.1 refl) (λ c. number-of c.enum-told2.given.1 refl)
-    (λ c. number-of c.enum-told3.given.1 refl) (λ c. number-of c.enum-told4.given.1 refl) (λ c. number-of c.enum-told5.given.1 refl)
-    (λ c. number-of c.enum-told6.given.1 refl) (λ c. number-of c.enum-told7.given.1 refl) (λ c. number-of c.enum-told8.given.1 refl)
-    (λ c. number-of c.enum-told9.given.1 refl) (λ c. number-of c.enum-told10.given.1 refl) (λ c. number-of c.enum-told11.given.1 refl)
-    (λ c. number-of c.enum-told12.given.1 refl) (λ c. number-of c.enum-told13.given.1 refl) (λ c. number-of c.enum-told14.given.1 refl)
-    (λ c. number-of c.enum-told15.given.1 refl) (λ c. number-of c.enum-told16.given.1 refl) (λ c. number-of c.enum-told17.given.1 refl)
-    (λ c. number-of c.enum-told18.given.1 refl) (λ c. number-of c.enum-told19.given.1 refl) (λ c. number-of c.enum-told20.given.1 refl)
-    (λ c. number-of c.enum-told21.given.1 refl) (λ c. number-of c.enum-told22.given.1 refl) (λ c. number-of c.enum-told23.given.1 refl) (λ c. number-of c.enum-told24.given.1 refl) (λ c. number-of c.enum-told25.given.1 refl))
+    (λ c. c.match.keys20) (λ c. c.match.keys21) (λ c. c.match.keys22) (λ c. c.match.keys23) (λ c. c.match.keys24) (λ c. c.match.keys25) (λ c. number_of_lem c.enum_told.given.1 refl) (λ c. number_of_lem c.enum-told2.given.1 refl)
+    (λ c. number_of_lem c.enum-told3.given.1 refl) (λ c. number_of_lem c.enum-told4.given.1 refl) (λ c. number_of_lem c.enum-told5.given.1 refl)
+    (λ c. number_of_lem c.enum-told6.given.1 refl) (λ c. number_of_lem c.enum-told7.given.1 refl) (λ c. number_of_lem c.enum-told8.given.1 refl)
+    (λ c. number_of_lem c.enum-told9.given.1 refl) (λ c. number_of_lem c.enum-told10.given.1 refl) (λ c. number_of_lem c.enum-told11.given.1 refl)
+    (λ c. number_of_lem c.enum-told12.given.1 refl) (λ c. number_of_lem c.enum-told13.given.1 refl) (λ c. number_of_lem c.enum-told14.given.1 refl)
+    (λ c. number_of_lem c.enum-told15.given.1 refl) (λ c. number_of_lem c.enum-told16.given.1 refl) (λ c. number_of_lem c.enum-told17.given.1 refl)
+    (λ c. number_of_lem c.enum-told18.given.1 refl) (λ c. number_of_lem c.enum-told19.given.1 refl) (λ c. number_of_lem c.enum-told20.given.1 refl)
+    (λ c. number_of_lem c.enum-told21.given.1 refl) (λ c. number_of_lem c.enum-told22.given.1 refl) (λ c. number_of_lem c.enum-told23.given.1 refl) (λ c. number_of_lem c.enum-told24.given.1 refl) (λ c. number_of_lem c.enum-told25.given.1 refl))

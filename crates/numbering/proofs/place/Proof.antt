@@ -1,6 +1,6 @@
 -- Each cause has its place.
 use mathlib.Core.Path.{refl}
-use Rattle.refusal.proofs.CauseLaws.{place-of}
+use Rattle.refusal.proofs.CauseLaws.{place_of_lem}
 use Rattle.numbering.proofs.place.Statement.{statement}
 use Rattle.numbering.proofs.place.Tie as tie
 
@@ -10,11 +10,11 @@ place-spec =
     (λ c. c.match.keys5) (λ c. c.match.keys6) (λ c. c.match.keys7) (λ c. c.match.keys8) (λ c. c.match.keys9)
     (λ c. c.match.keys10) (λ c. c.match.keys11) (λ c. c.match.keys12) (λ c. c.match.keys13) (λ c. c.match.keys14)
     (λ c. c.match.keys15) (λ c. c.match.keys16) (λ c. c.match.keys17) (λ c. c.match.keys18) (λ c. c.match.keys19)
-    (λ c. c.match.keys20) (λ c. c.match.keys21) (λ c. c.match.keys22) (λ c. c.match.keys23) (λ c. c.match.keys24) (λ c. c.match.keys25) (λ c. place-of c.enum_told.given.1 refl) (λ c. place-of c.enum-told2.given.1 refl)
-    (λ c. place-of c.enum-told3.given.1 refl) (λ c. place-of c.enum-told4.given.1 refl) (λ c. place-of c.before.cause.given.1 refl)
-    (λ c. place-of c.before.cause2.given.1 refl) (λ c. place-of c.before.cause3.given.1 refl) (λ c. place-of c.enum-told5.given.1 refl)
-    (λ c. place-of c.before.cause4.given.1 refl) (λ c. place-of c.enum-told6.given.1 refl) (λ c. place-of c.enum-told7.given.1 refl)
-    (λ c. place-of c.before.cause5.given.1 refl) (λ c. place-of c.enum-told8.given.1 refl) (λ c. place-of c.before.cause6.given.1 refl)
-    (λ c. place-of c.before.cause7.given.1 refl) (λ c. place-of c.before.cause8.given.1 refl) (λ c. place-of c.enum-told9.given.1 refl)
-    (λ c. place-of c.enum-told10.given.1 refl) (λ c. place-of c.enum-told11.given.1 refl) (λ c. place-of c.before.cause9.given.1 refl)
-    (λ c. place-of c.before.cause10.given.1 refl) (λ c. place-of c.before.cause11.given.1 refl) (λ c. place-of c.before.cause12.given.1 refl) (λ c. place-of c.enum-told12.given.1 refl) (λ c. place-of c.before.cause13.given.1 refl))
+    (λ c. c.match.keys20) (λ c. c.match.keys21) (λ c. c.match.keys22) (λ c. c.match.keys23) (λ c. c.match.keys24) (λ c. c.match.keys25) (λ c. place_of_lem c.enum_told.given.1 refl) (λ c. place_of_lem c.enum-told2.given.1 refl)
+    (λ c. place_of_lem c.enum-told3.given.1 refl) (λ c. place_of_lem c.enum-told4.given.1 refl) (λ c. place_of_lem c.before.cause.given.1 refl)
+    (λ c. place_of_lem c.before.cause2.given.1 refl) (λ c. place_of_lem c.before.cause3.given.1 refl) (λ c. place_of_lem c.enum-told5.given.1 refl)
+    (λ c. place_of_lem c.before.cause4.given.1 refl) (λ c. place_of_lem c.enum-told6.given.1 refl) (λ c. place_of_lem c.enum-told7.given.1 refl)
+    (λ c. place_of_lem c.before.cause5.given.1 refl) (λ c. place_of_lem c.enum-told8.given.1 refl) (λ c. place_of_lem c.before.cause6.given.1 refl)
+    (λ c. place_of_lem c.before.cause7.given.1 refl) (λ c. place_of_lem c.before.cause8.given.1 refl) (λ c. place_of_lem c.enum-told9.given.1 refl)
+    (λ c. place_of_lem c.enum-told10.given.1 refl) (λ c. place_of_lem c.enum-told11.given.1 refl) (λ c. place_of_lem c.before.cause9.given.1 refl)
+    (λ c. place_of_lem c.before.cause10.given.1 refl) (λ c. place_of_lem c.before.cause11.given.1 refl) (λ c. place_of_lem c.before.cause12.given.1 refl) (λ c. place_of_lem c.enum-told12.given.1 refl) (λ c. place_of_lem c.before.cause13.given.1 refl))

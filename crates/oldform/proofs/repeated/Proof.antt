@@ -3,7 +3,7 @@ use native.Mathlib.Omega.{arith}
 use Prim.Native.Nat.{◌-◌}
 use lib.ListN.{replicate}
 use Rattle.numbers.specs.Rows.{entry}
-use Rattle.numbers.proofs.RowLaws.{Filled, fill_start, fill-with, fill-most}
+use Rattle.numbers.proofs.RowLaws.{Filled, fill_start, fill_with, fill_most}
 use Rattle.oldform.proofs.FormLaws.{same_byte}
 use borrow.Author.Rules.{rules}
 use Rattle.oldform.proofs.repeated.Statement.{statement}
@@ -19,4 +19,4 @@ pub repeated-spec : {M : Type 1} → statement M
 repeated-spec =
     tie.close (tie.spec invariant-loop decreases-loop (λ c κs. search rules)
     (λ c. fill_start 0 _ _ (omega (arith, c.at-most-sixteen.ensures))) (λ c κs. search rules) (λ c. search rules)
-    (λ c. search rules) (λ c. search (rules, fill-with, same_byte)) (λ c. search (rules, fill-most)))
+    (λ c. search rules) (λ c. search (rules, fill_with, same_byte)) (λ c. search (rules, fill_most)))

@@ -5,7 +5,7 @@ use native.Mathlib.Numerals.{add-one}
 use native.Mathlib.Omega.{arith}
 use lib.ListN.{take}
 use Rattle.numbers.specs.Loads.{sum}
-use Rattle.numbers.proofs.LoadLaws.{sum-take-zero, sum-take-suc, sum-take-le}
+use Rattle.numbers.proofs.LoadLaws.{sum-take_zero, sum-take_suc, sum-take_le}
 use Rattle.outset.proofs.total_demand.Statement.{statement}
 use Rattle.outset.proofs.total_demand.Tie as tie
 
@@ -19,11 +19,11 @@ add_total : tie.Need-overflow-add-total invariant-loop decreases-loop
 add_total c =
     let ds = c.before.before.args.t1 in
     let i = c.before.loop.i in
-    omega (arith, sum-take-le 1000000 ds i c.before.before.requires.1, c.before.before.requires.1 i)
+    omega (arith, sum-take_le 1000000 ds i c.before.before.requires.1, c.before.before.requires.1 i)
 
 pub total-demand-spec : {M : Type 1} → statement M
 total-demand-spec =
-    tie.close (tie.spec invariant-loop decreases-loop (λ c. (omega arith, sym (sum-take-zero c.args.t1))) (λ c. omega arith)
+    tie.close (tie.spec invariant-loop decreases-loop (λ c. (omega arith, sym (sum-take_zero c.args.t1))) (λ c. omega arith)
     (λ c. omega arith) add_total (λ c. omega arith) (λ c. omega arith)
-    (λ c. (omega arith, rw (add-one, sum-take-suc) (omega arith)))
+    (λ c. (omega arith, rw (add-one, sum-take_suc) (omega arith)))
     (λ c. let e : c.before.loop.i ≡ c.before.before.args.n = omega arith in rw (← e) c.before.loop.invariant.1))

@@ -2,10 +2,10 @@
 use Prim.Native.Nat.{◌+◌, ◌-◌, ◌/◌, ◌%◌}
 use mathlib.Core.Bool.{false}
 use native.Mathlib.Omega.{arith}
-use Rattle.numbers.proofs.RowLaws.{Filled, fill_start, fill-next, fill_done}
+use Rattle.numbers.proofs.RowLaws.{Filled, fill_start, fill_next, fill_done}
 use Rattle.allocation.specs.Rule.{twins}
 use borrow.Author.Rules.{rules}
-use Rattle.outset.specs.Twins.{twinRows}
+use Rattle.outset.specs.Twins.{twin_rows}
 use Rattle.outset.proofs.twin_rows.Statement.{statement}
 use Rattle.outset.proofs.twin_rows.Tie as tie
 
@@ -16,10 +16,10 @@ abbrev decreases-loop : tie.decreases-loop
 decreases-loop affinity n rows₀ i₀ rows i = 16 - i
 
 loop-again : tie.Need-loop-preserved invariant-loop decreases-loop
-loop-again c = fill-next c.before.before.loop.invariant c.before.loop-test.true c.are-twins.ensures
+loop-again c = fill_next c.before.before.loop.invariant c.before.loop-test.true c.are-twins.ensures
 
 pub twin-rows-spec : {M : Type 1} → statement M
-unfolding twinRows
+unfolding twin_rows
 twin-rows-spec =
     tie.close (tie.spec invariant-loop decreases-loop (λ c. fill_start _ _ _ (omega arith)) (λ c. search rules) (λ c. search rules) (λ c κs. search rules)
     (λ c. search rules) (λ c. search rules) (λ c. search rules) loop-again (λ c. search (rules, fill_done)))

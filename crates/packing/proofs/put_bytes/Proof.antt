@@ -3,7 +3,7 @@ use Prim.Native.Nat.{◌-◌}
 use mathlib.Core.Path.{refl}
 use native.Mathlib.Omega.{arith}
 use lib.ListN.{take}
-use Rattle.wire.proofs.LentLaws.{Put, put-start, bytes_next, put-done}
+use Rattle.wire.proofs.LentLaws.{Put, put_start, bytes_next, put_done}
 use borrow.Author.Rules.{rules}
 use Rattle.packing.proofs.put_bytes.Statement.{statement}
 use Rattle.packing.proofs.put_bytes.Tie as tie
@@ -15,7 +15,7 @@ abbrev decreases-loop : tie.decreases-loop
 decreases-loop out₀ at n row k₀ out k = n - k
 
 loop-holds : tie.Need-loop-init invariant-loop decreases-loop
-loop-holds c = put-start _ _ _ 1 _ (omega (arith, c.requires.1)) refl
+loop-holds c = put_start _ _ _ 1 _ (omega (arith, c.requires.1)) refl
 
 loop-again : tie.Need-loop-preserved invariant-loop decreases-loop
 loop-again c = bytes_next _ _ (search rules) c.before.loop.invariant (search rules) refl
@@ -23,4 +23,4 @@ loop-again c = bytes_next _ _ (search rules) c.before.loop.invariant (search rul
 pub put-bytes-spec : {M : Type 1} → statement M
 put-bytes-spec =
     tie.close (tie.spec invariant-loop decreases-loop loop-holds (λ c. search rules) (λ c. search rules) (λ c. search rules)
-    (λ c. search rules) (λ c. search rules) loop-again (λ c. search rules) (λ c. put-done c.before.loop.invariant (search rules)))
+    (λ c. search rules) (λ c. search rules) loop-again (λ c. search rules) (λ c. put_done c.before.loop.invariant (search rules)))

@@ -1,22 +1,22 @@
 -- The tests are joined in their order.
-use Rattle.refusal.proofs.TestLaws.{order-step, order-last}
-use Rattle.placing.specs.Tests.{placingOutcome}
+use Rattle.refusal.proofs.TestLaws.{order_step, order_last}
+use Rattle.placing.specs.Tests.{placing_outcome}
 use borrow.Author.Rules.{rules}
 use Rattle.placing.proofs.placing_tests.Statement.{statement}
 use Rattle.placing.proofs.placing_tests.Tie as tie
 
 returns : tie.Need-returns
-unfolding placingOutcome
+unfolding placing_outcome
 returns c =
     let load = c.before.before.before.before in
     let core = load.before in
     let permitted = core.before in
     let entries = permitted.before in
-    order-step _ c.then4.ensures entries.before.places-test.ensures
-    (order-step _ c.before.then3.ensures entries.entries-test.ensures
-    (order-step _ c.before.before.then2.ensures permitted.permitted-test.ensures
-    (order-step _ c.before.before.before.then.ensures core.core-test.ensures
-    (order-last load.load-test.ensures))))
+    order_step _ c.then4.ensures entries.before.places-test.ensures
+    (order_step _ c.before.then3.ensures entries.entries-test.ensures
+    (order_step _ c.before.before.then2.ensures permitted.permitted-test.ensures
+    (order_step _ c.before.before.before.then.ensures core.core-test.ensures
+    (order_last load.load-test.ensures))))
 
 pub placing-tests-spec : {M : Type 1} → statement M
 placing-tests-spec =

@@ -1,6 +1,6 @@
 -- The task set is made ready, the walk's choices come back into table order.
-use Rattle.planning.proofs.PreparedLaws.{demand-small}
-use Rattle.planner.proofs.PlanLaws.{ranges, plan-is}
+use Rattle.planning.proofs.PreparedLaws.{demand_small}
+use Rattle.planner.proofs.PlanLaws.{ranges, plan_is}
 use borrow.Author.Rules.{rules}
 use Rattle.planner.proofs.plan_tasks.Statement.{statement}
 use Rattle.planner.proofs.plan_tasks.Tie as tie
@@ -9,12 +9,12 @@ use Rattle.planner.proofs.plan_tasks.Tie as tie
 search-requires : tie.Need-search-requires
 search-requires c κs =
     let checked = c.before.before.before.before.requires in
-    ranges checked _ (λ k. search (c.before.before.prepare.ensures.small k, demand-small checked k))
+    ranges checked _ (λ k. search (c.before.before.prepare.ensures.small k, demand_small checked k))
 
 returns : tie.Need-returns
 returns c =
     let found = c.before.before.before in
-    plan-is found.before.before.before.prepare.ensures _ found.search.ensures c.before.in-table-order.ensures c.verdict-of.ensures
+    plan_is found.before.before.before.prepare.ensures _ found.search.ensures c.before.in-table-order.ensures c.verdict-of.ensures
 
 pub plan-tasks-spec : {M : Type 1} → statement M
 plan-tasks-spec =

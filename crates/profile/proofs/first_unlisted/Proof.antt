@@ -1,8 +1,8 @@
 -- A search for the first task whose period is not in the list.
 use Prim.Native.Nat.{◌-◌}
-use Rattle.numbers.proofs.FirstLaws.{Seeking, seek-start, seek-none}
+use Rattle.numbers.proofs.FirstLaws.{Seeking, seek_start, seek_none}
 use Rattle.profile.specs.Tests.{unlisted}
-use Rattle.profile.proofs.TestLaws.{unlisted-found, unlisted-on}
+use Rattle.profile.proofs.TestLaws.{unlisted_found, unlisted-on}
 use borrow.Author.Rules.{rules}
 use Rattle.profile.proofs.first_unlisted.Statement.{statement}
 use Rattle.profile.proofs.first_unlisted.Tie as tie
@@ -16,7 +16,7 @@ decreases-loop f k₀ k = f.n - k
 returns : tie.Need-returns invariant-loop decreases-loop
 returns c =
     let called = c.before in
-    unlisted-found _ called.before.before.before.loop.invariant called.before.before.loop-test.true called.bus-place.ensures.0 c.if1.true
+    unlisted_found _ called.before.before.before.loop.invariant called.before.before.loop-test.true called.bus-place.ensures.0 c.if1.true
 
 loop-again : tie.Need-loop-preserved invariant-loop decreases-loop
 loop-again c =
@@ -25,5 +25,5 @@ loop-again c =
 
 pub first-unlisted-spec : {M : Type 1} → statement M
 first-unlisted-spec =
-    tie.close (tie.spec invariant-loop decreases-loop (λ c. search (rules, seek-start)) (λ c. search rules) (λ c. search rules) (λ c κs. search rules) (λ c. search rules)
-    returns (λ c. search rules) (λ c. search rules) loop-again (λ c. search (rules, seek-none)))
+    tie.close (tie.spec invariant-loop decreases-loop (λ c. search (rules, seek_start)) (λ c. search rules) (λ c. search rules) (λ c κs. search rules) (λ c. search rules)
+    returns (λ c. search rules) (λ c. search rules) loop-again (λ c. search (rules, seek_none)))

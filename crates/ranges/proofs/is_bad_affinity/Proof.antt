@@ -1,11 +1,11 @@
 -- The test is the definition.
-use Rattle.fields.specs.Tests.{badAffinity}
+use Rattle.fields.specs.Tests.{bad_affinity}
 use borrow.Author.Rules.{rules}
 use Rattle.ranges.proofs.is_bad_affinity.Statement.{statement}
 use Rattle.ranges.proofs.is_bad_affinity.Tie as tie
 
 returns : tie.Need-returns
-unfolding badAffinity
+unfolding bad_affinity
 returns c = search rules
 
 pub is-bad-affinity-spec : {M : Type 1} → statement M

@@ -1,11 +1,11 @@
 -- The test is the definition.
-use Rattle.fields.specs.Tests.{badCost}
+use Rattle.fields.specs.Tests.{bad_cost}
 use borrow.Author.Rules.{rules}
 use Rattle.ranges.proofs.is_bad_cost.Statement.{statement}
 use Rattle.ranges.proofs.is_bad_cost.Tie as tie
 
 returns : tie.Need-returns
-unfolding badCost
+unfolding bad_cost
 returns c = rw c.sum.ensures
 
 pub is-bad-cost-spec : {M : Type 1} → statement M

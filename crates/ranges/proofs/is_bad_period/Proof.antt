@@ -1,11 +1,11 @@
 -- The test is the definition.
-use Rattle.fields.specs.Tests.{badPeriod}
+use Rattle.fields.specs.Tests.{bad_period}
 use borrow.Author.Rules.{rules}
 use Rattle.ranges.proofs.is_bad_period.Statement.{statement}
 use Rattle.ranges.proofs.is_bad_period.Tie as tie
 
 returns : tie.Need-returns
-unfolding badPeriod
+unfolding bad_period
 returns c = search rules
 
 pub is-bad-period-spec : {M : Type 1} → statement M

@@ -1,7 +1,7 @@
 -- One task's value after another is written at the end.
 use Prim.Native.Nat.{◌-◌}
 use native.Mathlib.Omega.{arith}
-use Rattle.reorder.proofs.ListedLaws.{Gathering, gather-start, gather-next, gather-done, listed_below}
+use Rattle.reorder.proofs.ListedLaws.{Gathering, gather_start, gather_next, gather_done, listed_below}
 use borrow.Author.Rules.{rules}
 use Rattle.reorder.proofs.in_planning_order.Statement.{statement}
 use Rattle.reorder.proofs.in_planning_order.Tie as tie
@@ -19,10 +19,10 @@ array-read-with-number : tie.Need-array-read-with-number invariant-loop decrease
 array-read-with-number c = omega (arith, listed_below c.before.loop.invariant.listed _ c.loop-test.true, c.before.before.requires.few)
 
 loop-again : tie.Need-loop-preserved invariant-loop decreases-loop
-loop-again c = gather-next c.before.before.loop.invariant c.before.loop-test.true c.with_number.ensures
+loop-again c = gather_next c.before.before.loop.invariant c.before.loop-test.true c.with_number.ensures
 
 pub in-planning-order-spec : {M : Type 1} → statement M
 in-planning-order-spec =
-    tie.close (tie.spec invariant-loop decreases-loop (λ c. gather-start _ _ _ c.requires) (λ c. search rules) (λ c. search rules)
+    tie.close (tie.spec invariant-loop decreases-loop (λ c. gather_start _ _ _ c.requires) (λ c. search rules) (λ c. search rules)
     mul-with-number array-read-with-number (λ c κs. search rules) (λ c. search rules) (λ c. search rules)
-    loop-again (λ c. gather-done c.before.loop.invariant c.loop-test.false))
+    loop-again (λ c. gather_done c.before.loop.invariant c.loop-test.false))

@@ -2,13 +2,13 @@
 use mathlib.Core.Path.{sym, ◌∙◌}
 use native.Mathlib.Omega.{arith}
 use Rattle.runs.proofs.FitLaws.{fit_of}
-use Rattle.replay.proofs.AuditLaws.{looked-stuck, audited-unfit, audited-fit}
+use Rattle.replay.proofs.AuditLaws.{looked_stuck, audited-unfit, audited_fit}
 use borrow.Author.Rules.{rules}
 use Rattle.replay.proofs.look_at.Statement.{statement}
 use Rattle.replay.proofs.look_at.Tie as tie
 
 returns : tie.Need-returns
-returns c = looked-stuck c.before.before.args.a c.before.before.args.r c.if1.true
+returns c = looked_stuck c.before.before.args.a c.before.before.args.r c.if1.true
 
 is-unfit-requires : tie.Need-is-unfit-requires
 is-unfit-requires c κs = search rules
@@ -26,7 +26,7 @@ add-t7 : tie.Need-overflow-add-t7
 add-t7 c = search rules
 
 returns-3 : tie.Need-returns-3
-returns-3 c = sym (audited-fit c.before.before.before.before.before.before.before.args.a c.before.before.before.before.before.before.before.args.r (omega arith) (sym c.before.before.before.before.is-unfit.ensures ∙ c.before.before.before.if2.false))
+returns-3 c = sym (audited_fit c.before.before.before.before.before.before.before.args.a c.before.before.before.before.before.before.before.args.r (omega arith) (sym c.before.before.before.before.is-unfit.ensures ∙ c.before.before.before.if2.false))
 
 pub look-at-spec : {M : Type 1} → statement M
 look-at-spec =

@@ -1,5 +1,5 @@
 -- The verdict and two numbers.
-use Rattle.report.proofs.LineLaws.{summary-made}
+use Rattle.report.proofs.LineLaws.{summary_made}
 use borrow.Author.Rules.{rules}
 use Rattle.report.proofs.append_summary.Statement.{statement}
 use Rattle.report.proofs.append_summary.Tie as tie
@@ -7,4 +7,4 @@ use Rattle.report.proofs.append_summary.Tie as tie
 pub append-summary-spec : {M : Type 1} → statement M
 append-summary-spec =
     tie.close (tie.spec (λ c κs. search rules) (λ c. search rules) (λ c κs. search rules) (λ c. search rules)
-    (λ c κs. search rules) (λ c. search rules) (λ c κs. search rules) (λ c. search (rules, summary-made)))
+    (λ c κs. search rules) (λ c. search rules) (λ c κs. search rules) (λ c. search (rules, summary_made)))

@@ -2,7 +2,7 @@
 use native.Mathlib.Omega.{arith}
 use Prim.Native.Nat.{◌-◌}
 use Rattle.wire.specs.Bytes.{word_at}
-use Rattle.numbers.proofs.RowLaws.{Filled, fill_start, fill-with, fill-most}
+use Rattle.numbers.proofs.RowLaws.{Filled, fill_start, fill_with, fill_most}
 use borrow.Author.Rules.{rules}
 use Rattle.rows.proofs.words.Statement.{statement}
 use Rattle.rows.proofs.words.Tie as tie
@@ -15,11 +15,11 @@ decreases-loop s at n count entries₀ k₀ entries k = count - k
 
 loop-again : tie.Need-loop-preserved invariant-loop decreases-loop
 unfolding word_at
-loop-again c = fill-with c.before.before.before.loop.invariant c.before.before.loop-test.true c.with_number.ensures c.before.word.ensures
+loop-again c = fill_with c.before.before.before.loop.invariant c.before.before.loop-test.true c.with_number.ensures c.before.word.ensures
 
 pub words-spec : {M : Type 1} → statement M
 words-spec =
     tie.close (tie.spec invariant-loop decreases-loop (λ c κs. search rules)
     (λ c. fill_start 0 _ _ (omega (arith, c.at-most-sixteen.ensures))) (λ c. search rules) (λ c. search rules)
     (λ c κs. search rules) (λ c κs. search rules) (λ c. search rules) (λ c. search rules) loop-again
-    (λ c. search (rules, fill-most)))
+    (λ c. search (rules, fill_most)))

@@ -5,8 +5,8 @@ use denote.Ref.{Bor, MutBor}
 use Rattle.runlog.proofs.Walk.{◌≡◌, refl, sym, ◌∙◌, ap, subst, ℕ, suc, ◌+◌, ◌-◌, ◌<◌, ◌≤◌, ◌*◌, ◌^◌, zero-le, arith, Bool, true, false, [], ◌∷◌, List, WellFounded, InvImage·wf, Nat·lt-wfRel, Holds, ltb, lit<, length, get_or, take, ltb-true, ltb-false, Ura, full_share, Ty, named, imm, mut, erased, w8, w64, ty_int, ty_unit, ty_bool, ty_ptr, ty_ref, Val, WT, has_ty, vunit, vbool, vint, vptr, SProp, ent, sep, id⊢, Lft, Share, GName, Fml, ftrue, fat, froom, fdies, flft, Memory, Routine, Out, Env, Calls, Loops, Wp, WpFn, Tables, after_seq, after_block, after_turn, at_return, sem, Fun, fact, tables, tables_of, Item, ‵, raw, ◌⊛◌, ⋆, some, later, runs, any_q, at_ret, Sq, ◌$◌, ◌∵◌, !, qed, by, move, keep, use1, use2, use3, split, join, pick, rewrite, fsplit, fjoin, feq_l, feq_i, suffices, frame, await, done, look, look_raw, init, store, forget, stop, hop, fld, from, load, lit, unit_lit, addr, of_opd, bin, and_then, no_more, assigns, assigns_last, land, first, blocks, stays, leaves_loop, returns, enter, alloc1, alloc0, params1, pass1, pass0, free1, free0, exec, Below, again, loops, agg, whole, sub, look_in, lft_new, lft_end, fm_of, WpFn-mono, owns, Is, shows, pointee, uint_vals, uint_Tells, uint_Makes, u8, usize, unit, RefT, slice_ty, slice_val, ShrSlice, MutSlice, Room, mut_slice_Tells, slice-vals, shr_slice_Tells, place_is, elem_out, elem_back, looks_slice, shuts_slice, plain, only, owned, heard, nothing, Contract, Triple, calls_at, on_entry, Meets, triple_of, entered, cited, ensured, lasts, says, needs, Stays, stay_slice, stay_none, stay_none_slice, walk_of, Goes-slice, Goes-none, Goes-none_slice, Walks, ends_at, walked, walk_Meets, yes}
 use denote.Struct.Laws as LL
 use Rattle.runs.specs.declared.Run.{Run}
-use Rattle.replay.specs.Tests.{painted, paintedAll}
-use Rattle.replay.proofs.PaintLaws.{paint-next, paintedAll-length}
+use Rattle.replay.specs.Tests.{painted, painted_all}
+use Rattle.replay.proofs.PaintLaws.{paint_next, painted_all-length}
 use Rattle.runlog.proofs.Again.{LentAgain, lends_again, comes_back}
 use Rattle.runs.specs.contracts.Run as T
 use Rattle.runs.proofs.Run.TheLaws as T'
@@ -39,8 +39,8 @@ lent_ref = ty_ref erased mut (ty_int w8)
 abbrev mach : Run → Val
 mach r = T'.lowered r
 
-abbrev zero-run : Run
-zero-run = record { task = 0; first = 0; length = 0 }
+abbrev zero_run : Run
+zero_run = record { task = 0; first = 0; length = 0 }
 
 module _ {M : Type 1} {𝓤 : Ura M} (𝓛 : Logic 𝓤) (at_mem : Memory → SProp 𝓤) (run : Routine → Fun 𝓤) where
   -- the contract that the proof cites
@@ -83,7 +83,7 @@ module _ {M : Type 1} {𝓤 : Ura M} (𝓛 : Logic 𝓤) (at_mem : Memory → SP
 
   -- the row after k records
   abbrev Y : ℕ → List ℕ
-  Y k = paintedAll (take k rs) ys
+  Y k = painted_all (take k rs) ys
 
   exits : (l : List ℕ) → l ≡ Y n → length l ≡ length ys → n < 2 ^ 64 → ent 𝓤 (⋆ 𝓛 (‵ (Row l (length ys)) ∷ ‵ (flft κ' q') ∷ (‵ (flft κ q) ⊛ ‵ ftrue) ∷ ‵ Own ∷ [])) (Post vunit)
   exits l e len gi =
@@ -137,7 +137,7 @@ module _ {M : Type 1} {𝓤 : Ura M} (𝓛 : Logic 𝓤) (at_mem : Memory → SP
     Turned k = after_turn 𝓤 H (Below 𝓛 Nearer At k) (after_block 𝓤 H (after_seq 𝓤 H (Wp 𝓤 H C Λ En code-mir.t-3 (at_return 𝓤 H En Post)) (at_return 𝓤 H En Post)))
 
     same : (k : ℕ) → length (Y k) ≡ length ys
-    same k = paintedAll-length (take k rs) ys
+    same k = painted_all-length (take k rs) ys
 
     -- the turn that leaves the loop, and the rest of the body
     over : (k : Upto) → ltb k.0 n ≡ false → Sq 𝓛 (At k) (runs C Λ En code-mir.turn-1 (any_q (Turned k)))
@@ -165,16 +165,16 @@ module _ {M : Type 1} {𝓤 : Ura M} (𝓛 : Logic 𝓤) (at_mem : Memory → SP
         stays ! (load ! (from ! (stop !)) (look ! 16 refl)) $
         assigns ! (addr ! (from ! (fld ! refl (hop ! (look_in ! 22 (sub ! 0 refl (whole !))) (stop !))))) (from ! (stop !)) (init ! 12 refl (tt, tt)) $
         assigns ! (agg ! (and_then ! (load ! (from ! (stop !)) (look ! 12 refl)) (and_then ! (load ! (from ! (fld ! refl (stop !))) (look_in ! 22 (sub ! 1 refl (whole !)))) (no_more !)))) (from ! (stop !)) (init ! 10 refl (tt, (tt, (record { fits = room.0 }, tt)))) $
-        assigns ! (bin ! (load ! (from ! (stop !)) (look ! 18 refl)) (lit ! tt) (record { fits = place-fits })) (from ! (stop !)) (init ! 8 refl (tt, record { fits = place-fits })) $
+        assigns ! (bin ! (load ! (from ! (stop !)) (look ! 18 refl)) (lit ! tt) (record { fits = place_fits })) (from ! (stop !)) (init ! 8 refl (tt, record { fits = place_fits })) $
         assigns ! (bin ! (load ! (from ! (fld ! refl (stop !))) (look_in ! 24 (sub ! 0 refl (whole !)))) (load ! (from ! (stop !)) (look ! 8 refl)) tt) (from ! (stop !)) (init ! 6 refl (tt, tt)) $
         rewrite ! 6 (λ (p : ℕ). ‵ (fat full_share ty_ptr l₁₀ 0 (vptr b p))) (sym (place_is 12 o k.0)) refl $
         -- the records are looked into, and one is copied
         move ! (3 ∷ []) $ fsplit ! $ move ! (1 ∷ []) $ fsplit ! $ move ! (5 ∷ []) $ split ! $ move ! (3 ∷ 0 ∷ []) $
         looks_slice ! tt T.the_row (Is T.the_row) (shows 𝓛 T.the_row) (LL.vals T.the_type T'.the_laws) (LL.tells T.the_type T'.the_laws) (LL.copy T.the_type T'.the_copy 𝓛) rs b o (λ t.
-        elem_out ! T.the_row (Is T.the_row) (shows 𝓛 T.the_row) (LL.vals T.the_type T'.the_laws) (LL.tells T.the_type T'.the_laws) t rs k.0 zero-run b o inside (λ g.
+        elem_out ! T.the_row (Is T.the_row) (shows 𝓛 T.the_row) (LL.vals T.the_type T'.the_laws) (LL.tells T.the_type T'.the_laws) t rs k.0 zero_run b o inside (λ g.
         -- [records[k]; what it owns; the others; what shuts; the borrow; true; res; the fact; the row; its token; _11; …; _10; …]
         assigns ! (of_opd ! (load ! (from ! (hop ! (look ! 12 refl) (stop !))) (look_raw ! 0 refl))) (from ! (stop !)) (init ! 10 refl ((LL.lawful T.the_type T'.the_laws 𝓛).typed r _ g).0) $
-        elem_back ! T.the_row t rs k.0 zero-run (mach r ∷ []) b o inside $ shuts_slice ! tt T.the_row t rs b o $
+        elem_back ! T.the_row t rs k.0 zero_run (mach r ∷ []) b o inside $ shuts_slice ! tt T.the_row t rs b o $
         move ! (3 ∷ 1 ∷ []) $ fjoin ! $ move ! (3 ∷ 0 ∷ []) $ fjoin ! $ move ! (1 ∷ 2 ∷ []) $ join ! $
         -- [the token; what records own; the row; its token; _11; …]: the row is lent again for a lifetime ν of the call
         lft_new ! tt (λ ν. move ! (3 ∷ 4 ∷ []) $
@@ -206,19 +206,19 @@ module _ {M : Type 1} {𝓤 : Ura M} (𝓛 : Logic 𝓤) (at_mem : Memory → SP
         inside = omega (arith, less, within)
 
         r : Run
-        r = get_or rs k.0 zero-run
+        r = get_or rs k.0 zero_run
 
         room : Room u8 (length (Y k.0))
         room = subst (Room u8) (sym (same k.0)) gy
 
-        place-fits : k.0 * 12 < 2 ^ 64
-        place-fits = omega (arith, inside, gn.1)
+        place_fits : k.0 * 12 < 2 ^ 64
+        place_fits = omega (arith, inside, gn.1)
 
         next_fits : k.0 + 1 < 2 ^ 64
         next_fits = omega (arith, less, gi)
 
         written : (l : List ℕ) → l ≡ painted (Y k.0) r → l ≡ Y (k.0 + 1)
-        written l e = let one : k.0 + 1 ≡ suc k.0 = omega arith in e ∙ rw one (sym (paint-next rs k.0 zero-run ys inside))
+        written l e = let one : k.0 + 1 ≡ suc k.0 = omega arith in e ∙ rw one (sym (paint_next rs k.0 zero_run ys inside))
 
     turns : (k : Upto) → Sq 𝓛 (At k) (runs C Λ En code-mir.turn-1 (any_q (Turned k)))
     turns k = go (ltb k.0 n) refl
@@ -246,22 +246,22 @@ module _ {M : Type 1} {𝓤 : Ura M} (𝓛 : Logic 𝓤) (at_mem : Memory → SP
 module _ {M : Type 1} {𝓤 : Ura M} (𝓛 : Logic 𝓤) (at_mem : Memory → SProp 𝓤) (run : Routine → Fun 𝓤) where
   open 𝓛 use {H}
 
-  paint-all-walks : (𝓣 : Tables 𝓤 H) → Triple 𝓤 (𝓣.C #replay·paint) (Paint 𝓛 at_mem run) → Walks 𝓛 f.ended stayed (WpFn 𝓤 H 𝓣.C 𝓣.Λ code.function) (f.clauses 𝓛 at_mem run)
-  paint-all-walks 𝓣 known = walked 𝓛 f.ended stayed (f.clauses 𝓛 at_mem run) (WpFn 𝓤 H 𝓣.C 𝓣.Λ code.function)
+  paint_all_walks : (𝓣 : Tables 𝓤 H) → Triple 𝓤 (𝓣.C #replay·paint) (Paint 𝓛 at_mem run) → Walks 𝓛 f.ended stayed (WpFn 𝓤 H 𝓣.C 𝓣.Λ code.function) (f.clauses 𝓛 at_mem run)
+  paint_all_walks 𝓣 known = walked 𝓛 f.ended stayed (f.clauses 𝓛 at_mem run) (WpFn 𝓤 H 𝓣.C 𝓣.Λ code.function)
       (λ κs. (shr_slice_vals, (mut_slice_vals, (uint_vals w64, tt)))) (λ κs. (shr_slice_Tells (named 0) κs.0 T.the_row, (mut_slice_Tells (named 1) κs.1.0 u8, (uint_Tells w64, tt))))
       (λ κs qs bounds a g are. needs 𝓤 (a.1.1.0 ≤ length a.0.now) _ (λ within.
       walk 𝓛 at_mem run κs.0 κs.1.0 qs.0 qs.1.0 a.0.ref_ptr.0 a.0.ref_ptr.1 a.0.ghost_name a.0.now a.1.0.ref_ptr.0 a.1.0.ref_ptr.1 a.1.0.ghost_name a.1.0.now a.1.1.0 within are.1.1.0.1 are.0.0.1 are.1.0.0.1 𝓣 known))
 
-paint-all-meets : {M : Type 1} {𝓤 : Ura M} (𝓛 : Logic 𝓤) → (at_mem : Memory → SProp 𝓤) (run : Routine → Fun 𝓤) (𝓣 : Tables 𝓤 𝓛.H)
+paint_all_meets : {M : Type 1} {𝓤 : Ura M} (𝓛 : Logic 𝓤) → (at_mem : Memory → SProp 𝓤) (run : Routine → Fun 𝓤) (𝓣 : Tables 𝓤 𝓛.H)
     → Triple 𝓤 (𝓣.C #replay·paint) (Paint 𝓛 at_mem run) → Meets 𝓛 f.signature (WpFn 𝓤 𝓛.H 𝓣.C 𝓣.Λ code.function) (f.spec 𝓛 at_mem run)
-paint-all-meets {𝓤 = 𝓤} 𝓛 at_mem run 𝓣 known =
+paint_all_meets {𝓤 = 𝓤} 𝓛 at_mem run 𝓣 known =
     walk_Meets 𝓛 f.ended stayed (Goes-none_slice 𝓛 2 (0 ∷ []) tt (plain (λ _. T.the_row)) yes, (Goes-slice 𝓛 2 1 tt (plain (λ _. u8)), (Goes-none 𝓛 2 (λ _. usize) yes (λ κs x f. refl), tt)))
-    (f.clauses 𝓛 at_mem run) (WpFn 𝓤 𝓛.H 𝓣.C 𝓣.Λ code.function) (WpFn-mono 𝓤 𝓛.H 𝓛.laws 𝓣 code.function) (paint-all-walks 𝓛 at_mem run 𝓣 known)
+    (f.clauses 𝓛 at_mem run) (WpFn 𝓤 𝓛.H 𝓣.C 𝓣.Λ code.function) (WpFn-mono 𝓤 𝓛.H 𝓛.laws 𝓣 code.function) (paint_all_walks 𝓛 at_mem run 𝓣 known)
 
-pub paint-all-spec : {M : Type 1} → stated.statement M
+pub paint_all_spec : {M : Type 1} → stated.statement M
 unfolding code.routine tables_of
-paint-all-spec 𝓤 𝓛 𝓜 𝓡 =
+paint_all_spec 𝓤 𝓛 𝓜 𝓡 =
     entered 𝓤 𝓛.H (triple_of 𝓛 f.signature (f.spec 𝓛 𝓜.mem 𝓡.run))
     (tables 𝓤 𝓛.H 𝓜 𝓡 code.env).C (tables 𝓤 𝓛.H 𝓜 𝓡 code.env).Λ #runlog·paint-all code.function (code.unfolded 𝓤 𝓛.H 𝓜 𝓡)
-    (paint-all-meets 𝓛 𝓜.mem 𝓡.run (tables_of 𝓤 𝓛.H 𝓜 (tables 𝓤 𝓛.H 𝓜 𝓡 code.env))
+    (paint_all_meets 𝓛 𝓜.mem 𝓡.run (tables_of 𝓤 𝓛.H 𝓜 (tables 𝓤 𝓛.H 𝓜 𝓡 code.env))
     (cited 𝓤 𝓛.H (Paint 𝓛 𝓜.mem 𝓡.run) 𝓜 𝓡 code.env #replay·paint paint-def.routine code.calls-replay::paint (paint-thm.met 𝓤 𝓛 𝓜 𝓡)))

@@ -15,9 +15,9 @@ walk-requires c κs =
     let a = summed.before.args in
     record {
       ranges = summed.before.requires;
-      twins-are = c.twin-rows.ensures;
-      total-is = summed.total-demand.ensures;
-      excess-is = c.before.excess-of.ensures ∙ ap (λ x. x - a.m * a.h) summed.total-demand.ensures;
+      twins_are = c.twin-rows.ensures;
+      total_is = summed.total-demand.ensures;
+      excess_is = c.before.excess-of.ensures ∙ ap (λ x. x - a.m * a.h) summed.total-demand.ensures;
     }
 
 pub search-spec : {M : Type 1} → statement M

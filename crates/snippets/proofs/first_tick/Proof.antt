@@ -2,12 +2,12 @@
 use mathlib.Core.Path.{sym}
 use lib.Seq.{length-take-le}
 use borrow.Author.Rules.{rules}
-use Rattle.snippets.proofs.ShownLaws.{plan-long, first-ticked}
+use Rattle.snippets.proofs.ShownLaws.{plan_long, first-ticked}
 use Rattle.snippets.proofs.first_tick.Statement.{statement}
 use Rattle.snippets.proofs.first_tick.Tie as tie
 
 array-share-prefix-placement : tie.Need-array-share-prefix-placement
-array-share-prefix-placement c = rw (c.before.plan.ensures.0, plan-long _ _) c.before.before.before.before.requires
+array-share-prefix-placement c = rw (c.before.plan.ensures.0, plan_long _ _) c.before.before.before.before.requires
 
 slice-aggregate-fresh : tie.Need-slice-aggregate-fresh
 slice-aggregate-fresh c = sym (length-take-le _ _ (array-share-prefix-placement c.before))

@@ -2,7 +2,7 @@
 use Prim.Native.Nat.{◌-◌}
 use lib.ListN.{length}
 use borrow.Author.Rules.{rules}
-use Rattle.text.proofs.ClipLaws.{Spelled, spell-start, spell_next, spell-done}
+use Rattle.text.proofs.ClipLaws.{Spelled, spell_start, spell_next, spell_done}
 use Rattle.text.proofs.append_bytes.Statement.{statement}
 use Rattle.text.proofs.append_bytes.Tie as tie
 
@@ -14,5 +14,5 @@ decreases-loop bytes longer₀ i₀ longer i = length bytes - i
 
 pub append-bytes-spec : {M : Type 1} → statement M
 append-bytes-spec =
-    tie.close (tie.spec invariant-loop decreases-loop (λ c. search (rules, spell-start)) (λ c. search rules) (λ c κs. search rules)
-    (λ c. search rules) (λ c. search rules) (λ c. spell_next c.before.before.before.loop.invariant c.before.before.loop-test.true c.append-byte.ensures) (λ c. search (rules, spell-done)))
+    tie.close (tie.spec invariant-loop decreases-loop (λ c. search (rules, spell_start)) (λ c. search rules) (λ c κs. search rules)
+    (λ c. search rules) (λ c. search rules) (λ c. spell_next c.before.before.before.loop.invariant c.before.before.loop-test.true c.append-byte.ensures) (λ c. search (rules, spell_done)))

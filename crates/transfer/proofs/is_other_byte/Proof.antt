@@ -1,11 +1,11 @@
 -- The test is the definition.
-use Rattle.transfer.specs.Tables.{otherByte}
+use Rattle.transfer.specs.Tables.{other_byte}
 use borrow.Author.Rules.{rules}
 use Rattle.transfer.proofs.is_other_byte.Statement.{statement}
 use Rattle.transfer.proofs.is_other_byte.Tie as tie
 
 returns : tie.Need-returns
-unfolding otherByte
+unfolding other_byte
 returns c = rw c.every-core.ensures
 
 pub is-other-byte-spec : {M : Type 1} → statement M

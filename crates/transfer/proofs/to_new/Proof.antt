@@ -3,7 +3,7 @@ use native.Mathlib.Omega.{arith}
 use mathlib.Core.Path.{refl}
 use lib.ListN.{length}
 use Rattle.refusal.specs.declared.Cause.TheVariants.{Buffer}
-use Rattle.storing.proofs.StorableLaws.{call-answer, call-output, call-decides, call-stores}
+use Rattle.storing.proofs.StorableLaws.{call_answer, call_output, call_decides, call_stores}
 use Rattle.transfer.proofs.CallLaws.{moving, moved_on}
 use borrow.Author.Rules.{rules}
 use Rattle.transfer.proofs.to_new.Statement.{statement}
@@ -15,9 +15,9 @@ returns c =
     let start = read.before.before.before in
     let s = start.args.table.now in
     let out = start.args.out.now in
-    let e = call-answer Buffer refl (moving s) read.read-alone.ensures.0 (length out) c.before.before.store-new.ensures.0 in
-    let o = call-output Buffer refl (moving s) read.read-alone.ensures.0 out c.before.before.store-new.ensures.1 in
-    (e, (o, (call-decides Buffer refl (moving s) out e o, (call-stores Buffer refl (moving s) out e o, moved_on s out e o (λ i. omega (arith, read.before.before.shared-slice-known.given i))))))
+    let e = call_answer Buffer refl (moving s) read.read-alone.ensures.0 (length out) c.before.before.store-new.ensures.0 in
+    let o = call_output Buffer refl (moving s) read.read-alone.ensures.0 out c.before.before.store-new.ensures.1 in
+    (e, (o, (call_decides Buffer refl (moving s) out e o, (call_stores Buffer refl (moving s) out e o, moved_on s out e o (λ i. omega (arith, read.before.before.shared-slice-known.given i))))))
 
 -- the output is as long as it was
 same_length : tie.Need-same-length

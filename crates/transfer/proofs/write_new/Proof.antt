@@ -2,8 +2,8 @@
 use mathlib.Core.Path.{refl}
 use lib.ListN.{length}
 use Rattle.refusal.specs.declared.Cause.TheVariants.{Buffer}
-use Rattle.storing.proofs.StorableLaws.{call-answer, call-output, call-decides, call-stores}
-use Rattle.transfer.proofs.CallLaws.{writing, written-reading, write-back, write-unread}
+use Rattle.storing.proofs.StorableLaws.{call_answer, call_output, call_decides, call_stores}
+use Rattle.transfer.proofs.CallLaws.{writing, written_reading, write_back, write_unread}
 use borrow.Author.Rules.{rules}
 use Rattle.transfer.proofs.write_new.Statement.{statement}
 use Rattle.transfer.proofs.write_new.Tie as tie
@@ -14,10 +14,10 @@ returns c =
     let start = checked.before.before.before in
     let f = start.args.f in
     let out = start.args.out.now in
-    let g = written-reading f checked.before.counted.ensures checked.check.ensures.0 in
-    let e = call-answer Buffer refl (writing f) g (length out) c.before.before.store-new.ensures.0 in
-    let o = call-output Buffer refl (writing f) g out c.before.before.store-new.ensures.1 in
-    (e, (o, (call-decides Buffer refl (writing f) out e o, (call-stores Buffer refl (writing f) out e o, (write-back f out e o, write-unread f out e o)))))
+    let g = written_reading f checked.before.counted.ensures checked.check.ensures.0 in
+    let e = call_answer Buffer refl (writing f) g (length out) c.before.before.store-new.ensures.0 in
+    let o = call_output Buffer refl (writing f) g out c.before.before.store-new.ensures.1 in
+    (e, (o, (call_decides Buffer refl (writing f) out e o, (call_stores Buffer refl (writing f) out e o, (write_back f out e o, write_unread f out e o)))))
 
 -- the output is as long as it was
 same_length : tie.Need-same-length

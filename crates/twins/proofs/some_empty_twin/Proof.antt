@@ -10,32 +10,32 @@ use mathlib.Core.Logic.{dite}
 use lib.Dec.{eqb}
 use lib.ListN.{get_or}
 use borrow.Author.Rules.{rules}
-use Rattle.twins.specs.EmptyTwin.{someZeroTwin}
+use Rattle.twins.specs.EmptyTwin.{some_zero_twin}
 use Rattle.twins.proofs.some_empty_twin.Statement.{statement}
 use Rattle.twins.proofs.some_empty_twin.Tie as tie
 
 abbrev invariant-loop : tie.invariant-loop
-invariant-loop loads rows k d₀ d = (d ≤ k) × (someZeroTwin loads rows k d ≡ false)
+invariant-loop loads rows k d₀ d = (d ≤ k) × (some_zero_twin loads rows k d ≡ false)
 
 abbrev decreases-loop : tie.decreases-loop
 decreases-loop loads rows k d₀ d = k - d
 
 -- what is asked of load d
-abbrev emptyTwin : List ℕ → List Bool → ℕ → ℕ → Bool
-emptyTwin l rows c d = eqb (get_or l d 0) 0 && get_or rows (4 * c + d) false
+abbrev empty_twin : List ℕ → List Bool → ℕ → ℕ → Bool
+empty_twin l rows c d = eqb (get_or l d 0) 0 && get_or rows (4 * c + d) false
 
 module _ (l : List ℕ) (rows : List Bool) (c : ℕ) where
-  none : someZeroTwin l rows c 0 ≡ false
-  unfolding someZeroTwin
+  none : some_zero_twin l rows c 0 ≡ false
+  unfolding some_zero_twin
   none = refl
 
-  found : (d k : ℕ) → d < k → emptyTwin l rows c d ≡ true → someZeroTwin l rows c k ≡ true
-  unfolding someZeroTwin
+  found : (d k : ℕ) → d < k → empty_twin l rows c d ≡ true → some_zero_twin l rows c k ≡ true
+  unfolding some_zero_twin
   found d zero h e = absurd (omega arith)
   found d (suc k) h e = dite (ℕ_discrete d k) (λ (q : d ≡ k). rw (← q, e)) (λ n. rw (found d k (omega arith) e, or-true))
 
-  passed : (d : ℕ) → emptyTwin l rows c d ≡ false → someZeroTwin l rows c d ≡ false → someZeroTwin l rows c (d + 1) ≡ false
-  unfolding someZeroTwin
+  passed : (d : ℕ) → empty_twin l rows c d ≡ false → some_zero_twin l rows c d ≡ false → some_zero_twin l rows c (d + 1) ≡ false
+  unfolding some_zero_twin
   passed d e f = rw (add-one d, e) f
 
 returns : tie.Need-returns invariant-loop decreases-loop

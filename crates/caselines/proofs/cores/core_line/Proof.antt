@@ -1,5 +1,5 @@
 -- Number and place, the record, a line feed.
-use Rattle.caselines.proofs.LineLaws.{core-whole}
+use Rattle.caselines.proofs.LineLaws.{core_whole}
 use borrow.Author.Rules.{rules}
 use Rattle.caselines.proofs.cores.core_line.Statement.{statement}
 use Rattle.caselines.proofs.cores.core_line.Tie as tie
@@ -7,4 +7,4 @@ use Rattle.caselines.proofs.cores.core_line.Tie as tie
 pub core-line-spec : {M : Type 1} → statement M
 core-line-spec =
     tie.close (tie.spec (λ c κs. search rules) (λ c κs. search rules) (λ c κs. search rules) (λ c. search rules)
-    (λ c κs. search rules) (λ c. search (rules, core-whole)))
+    (λ c κs. search rules) (λ c. search (rules, core_whole)))

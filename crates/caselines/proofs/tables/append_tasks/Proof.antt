@@ -1,5 +1,5 @@
 -- Four rows.
-use Rattle.caselines.proofs.OrderLaws.{order-listed}
+use Rattle.caselines.proofs.OrderLaws.{order_listed}
 use Rattle.caselines.proofs.LineLaws.{tasks-made}
 use borrow.Author.Rules.{rules}
 use Rattle.caselines.proofs.tables.append_tasks.Statement.{statement}
@@ -7,5 +7,5 @@ use Rattle.caselines.proofs.tables.append_tasks.Tie as tie
 
 pub append-tasks-spec : {M : Type 1} → statement M
 append-tasks-spec =
-    tie.close (tie.spec (λ c κs. search rules) (λ c κs. search (rules, order-listed)) (λ c κs. search rules)
+    tie.close (tie.spec (λ c κs. search rules) (λ c κs. search (rules, order_listed)) (λ c κs. search rules)
     (λ c κs. search rules) (λ c κs. search rules) (λ c κs. search rules) (λ c. search (rules, tasks-made)))
