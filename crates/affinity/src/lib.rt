@@ -1,4 +1,6 @@
 // Core bytes: which cores a task may use, how many, and the lowest of them. Bit 0 stands for core 1, up to bit 3 for core 4.
+#![tactic(auto)]
+
 ghost use Rattle.std.specs.Prelude.{◌≡◌, ◌+◌, ◌≤◌, ◌<◌};
 ghost use Rattle.affinity.specs.Permitted.{permitted, allowed, permitted_count, lowest_permitted, unfit, every_core};
 

@@ -1,4 +1,6 @@
 // What the benchmarks call from C.
+#![tactic(auto)]
+
 ghost use Rattle.std.specs.Prelude.{◌≡◌, ◌<◌};
 ghost use Rattle.planner.specs.Plan.{plan_of};
 ghost use Rattle.oldform.specs.Limits.{beside};

@@ -1,5 +1,7 @@
 // The cores' loads with one of them changed: each entry is written, by its own test in the entries' own width, which the compiler makes a few
 // operations on all entries at once.
+#![tactic(auto)]
+
 ghost use Rattle.std.specs.Prelude.{◌≡◌, cond, ◌∷◌, ℕ, ◌+◌, ◌-◌, ◌<◌, ◌≤◌, eqb, get_or};
 ghost use Rattle.blend.specs.Entry.{on_core};
 

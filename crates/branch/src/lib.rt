@@ -1,4 +1,6 @@
 // What counts as tried once a choice is taken back, and whether a core has room for a task.
+#![tactic(auto)]
+
 ghost use Rattle.std.specs.Prelude.{◌≡◌, cond, ◌&&◌, ◌+◌, ◌<◌, ◌≤◌, leb};
 ghost use Rattle.affinity.specs.Permitted.{permitted};
 ghost use Rattle.allocation.specs.Walk.{tried_by};

@@ -1,4 +1,6 @@
 // The reader and the exact planner for bus drives: a table in the new form whose periods are all in the list of the drive-bus profile.
+#![tactic(auto)]
+
 ghost use Rattle.std.specs.Prelude.{◌≡◌};
 ghost use Rattle.refusal.specs.Tests.{◌then◌, in_order};
 ghost use Rattle.refusal.specs.declared.Outcome.TheVariants.{Accepted};

@@ -1,4 +1,6 @@
 // The whole output of the program `busplan` for the bytes of a table in the new form.
+#![tactic(auto)]
+
 ghost use Rattle.std.specs.Prelude.{◌≡◌, ◌≢◌};
 ghost use Rattle.refusal.specs.Causes.{number_in};
 ghost use Rattle.newform.specs.Limits.{new};

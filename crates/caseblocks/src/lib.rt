@@ -1,4 +1,6 @@
 // The blocks of a case, a length in two bytes, lowest first, then that many bytes; and what their bytes say.
+#![tactic(auto)]
+
 ghost use Rattle.std.specs.Prelude.{◌≡◌, ◌<◌, true, false, drop};
 ghost use Rattle.io.specs.Counts.{IsPrefixLen};
 ghost use Rattle.numbers.specs.Rows.{row};
@@ -12,7 +14,7 @@ use runs::Run;
 
 // What was read of a block: whether it is whole, and how many bytes it has. It is not whole, and has none, where the input ended or
 // the block is longer than it may be.
-#[derive(Drop)]
+#[derive(Clone, Copy)]
 pub struct Block {
     pub whole: bool,
     pub length: usize,

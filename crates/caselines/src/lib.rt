@@ -1,4 +1,6 @@
 // The lines of the cases as texts. Each code has a file, which names its blocks.
+#![tactic(auto)]
+
 pub mod ceilings;
 pub mod cores;
 pub mod lines;

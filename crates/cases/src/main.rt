@@ -1,5 +1,7 @@
 // One program over the library for tests from outside: it runs the cases on standard input and prints their lines.
 // A case is its code in one byte, then its blocks. Each code has a file in `caselines`, which names its blocks.
+#![tactic(auto)]
+
 ghost use Rattle.std.specs.Prelude.{◌≤◌, length};
 ghost use Rattle.io.specs.Counts.{IsPrefixLen};
 ghost use Rattle.logwords.specs.Words.{records_in};
@@ -19,7 +21,7 @@ fn read_exact(buffer: &mut [u8]) -> bool {
 }
 
 // A number that was read, and whether its block is whole.
-#[derive(Drop)]
+#[derive(Clone, Copy)]
 struct Number {
     whole: bool,
     value: u32,
@@ -36,7 +38,7 @@ fn read_number() -> Number {
 }
 
 // Sixteen numbers that were read, and whether their block is whole.
-#[derive(Drop)]
+#[derive(Clone, Copy)]
 struct Sixteen {
     whole: bool,
     numbers: [u32; 16],

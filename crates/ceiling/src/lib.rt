@@ -1,4 +1,6 @@
 // The step ceiling of a table: as many steps as the exact planner's walk has at most.
+#![tactic(auto)]
+
 ghost use Rattle.std.specs.Prelude.{◌≡◌};
 ghost use Rattle.taskset.specs.Promise.{Checked, Reads};
 ghost use Rattle.taskset.specs.Table.{Decided};
@@ -10,7 +12,7 @@ use refusal::Outcome;
 use taskset::{Reading, TaskSet};
 
 // The answer: a refused table has ceiling 0.
-#[derive(Drop)]
+#[derive(Clone, Copy)]
 pub struct StepCeiling {
     pub outcome: Outcome,
     pub ceiling: u64,

@@ -1,4 +1,6 @@
 // What the programs share: reading their input and writing a text.
+#![tactic(auto)]
+
 ghost use Rattle.std.specs.Prelude.{◌≡◌, ◌≤◌, length, drop};
 ghost use Rattle.io.specs.Counts.{IsPrefixLen};
 ghost use Rattle.text.specs.Shown.{shown};
@@ -26,7 +28,7 @@ pub fn read_next(buffer: &mut [u8], n: usize) -> usize
 }
 
 // How many bytes of a text an output took, and whether these are all that it shows.
-#[derive(Drop)]
+#[derive(Clone, Copy)]
 pub struct Written {
     pub taken: usize,
     pub whole: bool,

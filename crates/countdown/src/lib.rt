@@ -1,4 +1,6 @@
 // The countdown of one slot: of its release, and of what it owes where it runs.
+#![tactic(auto)]
+
 ghost use Rattle.std.specs.Prelude.{◌≡◌, ◌-◌};
 ghost use Rattle.edf.specs.Tick.{ran as ran_of, advanced as advanced_of};
 

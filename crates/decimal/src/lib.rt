@@ -1,4 +1,6 @@
 // Numbers in decimal, appended to a text.
+#![tactic(auto)]
+
 ghost use Rattle.std.specs.Prelude.{◌≡◌, ◌+◌, ◌*◌, ◌%◌, length};
 ghost use Rattle.text.specs.Shown.{Appended};
 ghost use Rattle.decimal.specs.Decimal.{decimal, field};

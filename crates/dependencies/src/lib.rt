@@ -1,4 +1,6 @@
 // The check of a dependency list: the tasks of a table in an order in which each stands after those that feed it, or a refusal.
+#![tactic(auto)]
+
 ghost use Rattle.std.specs.Prelude.{◌≡◌, ◌≤◌};
 ghost use Rattle.refusal.specs.Tests.{in_order};
 ghost use Rattle.taskset.specs.Table.{Decided};
@@ -12,7 +14,7 @@ use fields::{Fields, MOST_TASKS};
 use refusal::{Cause, Outcome};
 
 // The answer: the numbers of the tasks in their order, and zeros up to sixteen; sixteen zeros beside a refusal.
-#[derive(Drop)]
+#[derive(Clone, Copy)]
 pub struct TaskOrder {
     pub outcome: Outcome,
     pub order: [u8; MOST_TASKS],

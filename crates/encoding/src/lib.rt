@@ -1,4 +1,6 @@
 // The fields of a table as bytes of each stored form, written to the front of a lent output that has room.
+#![tactic(auto)]
+
 ghost use Rattle.std.specs.Prelude.{◌≡◌, ◌++◌, ◌+◌, ◌*◌, ◌≤◌, length, drop};
 ghost use Rattle.fields.specs.Limits.{Within};
 ghost use Rattle.oldform.specs.Form.{old_bytes};

@@ -1,4 +1,6 @@
 // The tests of a placement, for fields of a table: of its length and its entries, and of the cores that are permitted.
+#![tactic(auto)]
+
 ghost use Rattle.std.specs.Prelude.{◌≡◌, ◌≤◌, ◌<◌};
 ghost use Rattle.numbers.specs.First.{first};
 ghost use Rattle.entries.specs.Tests.{places_test, above_at, entries_test, barred_at, permitted_test};

@@ -1,4 +1,6 @@
 // The tests of a dependency list beside a table's fields: of its pairs, of the circles that they make, and all in order.
+#![tactic(auto)]
+
 ghost use Rattle.std.specs.Prelude.{◌≡◌, ◌≤◌};
 ghost use Rattle.numbers.specs.First.{first};
 ghost use Rattle.refusal.specs.Tests.{in_order};

@@ -1,4 +1,6 @@
 // The whole output of the program `feeds` for the bytes of a table in the new form and of a dependency list behind it.
+#![tactic(auto)]
+
 ghost use Rattle.std.specs.Prelude.{◌≡◌, ◌≤◌};
 ghost use Rattle.newform.specs.Limits.{new};
 ghost use Rattle.text.specs.Shown.{shown};

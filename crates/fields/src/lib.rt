@@ -1,4 +1,6 @@
 // What a table says, and the tests of its sizes, of the charge and of the row of core bytes.
+#![tactic(auto)]
+
 ghost use Rattle.std.specs.Prelude.{◌≡◌};
 ghost use Rattle.refusal.specs.Tests.{in_order};
 ghost use Rattle.fields.specs.Tests.{tasks_test, cores_test, size_tests, charge_test, row_test};
@@ -20,7 +22,7 @@ pub const MOST_MULTIPLE: u64 = 1000000;
 // What a stored table says: the numbers of tasks and cores, and a period and a budget (the paper's time) for each task. Beside it
 // the board's charge (the field's switch cost), and a core byte (the field's affinity) for each task with how many of them were
 // given: a stored form that holds them has n. A reader makes the entries beyond n 0.
-#[derive(Drop)]
+#[derive(Clone, Copy)]
 pub struct Fields {
     pub n: usize,
     pub m: usize,

@@ -1,4 +1,6 @@
 // The plain entry by which the controller's C firmware calls the planner.
+#![tactic(auto)]
+
 ghost use Rattle.std.specs.Prelude.{◌≡◌, ◌≤◌, length};
 ghost use Rattle.firmware.specs.Call.{called, code_of, code_for, buffer_after};
 ghost use Rattle.firmware.specs.Service.{Answers, Keeps};

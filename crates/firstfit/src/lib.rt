@@ -1,4 +1,6 @@
 // First fit, on demands in planning order: each task on the lowest permitted core where it still fits, or left out.
+#![tactic(auto)]
+
 ghost use Rattle.std.specs.Prelude.{◌≡◌, ◌≤◌, take};
 ghost use Rattle.numbers.specs.First.{first};
 ghost use Rattle.allocation.specs.Placement.{problem_of};

@@ -1,4 +1,6 @@
 // What the stored forms share: where a table has its sizes and rows, the tests of its shape, and the reading that follows them.
+#![tactic(auto)]
+
 ghost use Rattle.std.specs.Prelude.{◌≡◌, ◌≤◌};
 ghost use Rattle.refusal.specs.declared.Outcome.TheVariants.{Accepted};
 ghost use Rattle.taskset.specs.Reading.{reading_by};

@@ -1,4 +1,6 @@
 // The least common multiple of the periods, and its test.
+#![tactic(auto)]
+
 ghost use Rattle.std.specs.Prelude.{◌≡◌, ◌≤◌};
 ghost use Rattle.fields.specs.Tests.{hyperperiod_test};
 ghost use Rattle.hyperperiod.specs.Multiple.{multiple_of};
@@ -7,7 +9,7 @@ use fields::Fields;
 use refusal::{Cause, Outcome};
 
 // The least common multiple of the periods, or the first task, from 1, at which it exceeds 1,000,000.
-#[derive(Drop)]
+#[derive(Clone, Copy)]
 pub struct Multiple {
     pub exceeded: usize,
     pub value: u32,

@@ -1,4 +1,6 @@
 // The tests of the limits over all tasks of a table, joined in their order.
+#![tactic(auto)]
+
 ghost use Rattle.std.specs.Prelude.{◌≡◌, ◌≤◌};
 ghost use Rattle.numbers.specs.First.{first};
 ghost use Rattle.refusal.specs.Tests.{in_order};

@@ -1,4 +1,6 @@
 // The lines that the outputs of programs share: a table with the cores of its tasks, and a refusal.
+#![tactic(auto)]
+
 ghost use Rattle.std.specs.Prelude.{◌≡◌, ◌≤◌, []};
 ghost use Rattle.affinity.specs.Permitted.{permitted_count, lowest_permitted};
 ghost use Rattle.refusal.specs.Causes.{number_of, place_of};

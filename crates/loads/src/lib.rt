@@ -1,4 +1,6 @@
 // The load of a core by a placement, and its test, for a checked task set.
+#![tactic(auto)]
+
 ghost use Rattle.std.specs.Prelude.{◌≡◌, cond};
 ghost use Rattle.taskset.specs.Demands.{load_on};
 ghost use Rattle.taskset.specs.Promise.{Checked};

@@ -1,4 +1,6 @@
 // The two entries by which C writes and expands a run log.
+#![tactic(auto)]
+
 ghost use Rattle.std.specs.Prelude.{◌≡◌, ◌≤◌, length};
 ghost use Rattle.refusal.specs.Causes.{place_in};
 ghost use Rattle.recording.specs.Tests.{write_answer, log_after};
@@ -14,7 +16,7 @@ use runs::{Logged, Run};
 
 // An answer in the paper's numbers: the refusal's number and place, 0 and 0 if there is none, and the count.
 #[repr(C)]
-#[derive(Drop)]
+#[derive(Clone, Copy)]
 pub struct Reply {
     pub number: u32,
     pub place: u32,

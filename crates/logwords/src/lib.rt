@@ -1,4 +1,6 @@
 // The run log's two calls over records that stand in a row of numbers, three a record: for callers that cannot lend a row of structs.
+#![tactic(auto)]
+
 ghost use Rattle.std.specs.Prelude.{◌≡◌, ◌<◌, ◌≤◌, length, take};
 ghost use Rattle.refusal.specs.Causes.{number_in};
 ghost use Rattle.refusal.specs.Conditions.{Decides};

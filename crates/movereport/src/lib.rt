@@ -1,4 +1,6 @@
 // What the programs `tonew` and `toold` write for the bytes of a table: the moved table, or the refusal beside it.
+#![tactic(auto)]
+
 ghost use Rattle.std.specs.Prelude.{[], ◌≤◌, length};
 ghost use Rattle.listing.specs.Printed.{printed};
 ghost use Rattle.oldform.specs.Form.{old_bytes};
@@ -13,7 +15,7 @@ use storing::Transfer;
 use text::Text;
 
 // The texts for standard output and for standard error.
-#[derive(Drop)]
+#[derive(Clone, Copy)]
 pub struct Moved {
     pub table: Text,
     pub refusal: Text,

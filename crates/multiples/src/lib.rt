@@ -1,4 +1,6 @@
 // Whole products, the greatest common divisor and the least common multiple.
+#![tactic(auto)]
+
 ghost use Rattle.std.specs.Prelude.{◌≡◌, ◌*◌};
 ghost use Rattle.numbers.specs.Multiples.{gcd as gcd_of, lcm as lcm_of};
 

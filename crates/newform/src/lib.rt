@@ -1,4 +1,6 @@
 // The new stored form, which holds the charge and the core bytes: its bytes become fields, and these a task set or a refusal.
+#![tactic(auto)]
+
 ghost use Rattle.std.specs.Prelude.{◌≡◌};
 ghost use Rattle.taskset.specs.Promise.{Reads};
 ghost use Rattle.taskset.specs.Table.{reading_of, Decided};

@@ -1,4 +1,6 @@
 // The number and the place that the paper gives a cause of refusal.
+#![tactic(auto)]
+
 ghost use Rattle.std.specs.Prelude.{◌≡◌};
 ghost use Rattle.refusal.specs.Causes.{number_of, place_of};
 

@@ -1,4 +1,6 @@
 // A test of ranges, rows with one entry changed and whole sums.
+#![tactic(auto)]
+
 ghost use Rattle.std.specs.Prelude.{◌≡◌, ◌+◌, min, set};
 ghost use Rattle.numbers.specs.Bounds.{outside as outside_of};
 

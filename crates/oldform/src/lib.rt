@@ -1,5 +1,7 @@
 // The old stored form: its bytes become fields, with the charge and the core bytes that are given beside it, or with charge 0 and every
 // core; and these a task set or a refusal.
+#![tactic(auto)]
+
 ghost use Rattle.std.specs.Prelude.{◌≡◌, replicate};
 ghost use Rattle.numbers.specs.Rows.{row, entry};
 ghost use Rattle.taskset.specs.Reading.{reading_by};

@@ -1,4 +1,6 @@
 // What the walk starts from: which cores are twins, the total demand, and what the cores cannot hold of it.
+#![tactic(auto)]
+
 ghost use Rattle.std.specs.Prelude.{◌≡◌, ℕ, ◌+◌, ◌*◌, ◌-◌, ◌<◌, ◌≤◌, get_or, take};
 ghost use Rattle.std.specs.Bool.{xor};
 ghost use Rattle.numbers.specs.Loads.{sum};

@@ -1,4 +1,6 @@
 // Numbers and bytes put into a lent output, as tables and plans are stored.
+#![tactic(auto)]
+
 ghost use Rattle.std.specs.Prelude.{◌≡◌, ◌+◌, ◌*◌, ◌≤◌, length, take};
 ghost use Rattle.wire.specs.Bytes.{bytes_of, bytes_of_all, over};
 

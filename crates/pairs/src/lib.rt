@@ -1,4 +1,6 @@
 // A dependency list, which names pairs of a task that feeds and one that is fed: its pairs, the test of its shape, the test of one pair.
+#![tactic(auto)]
+
 ghost use Rattle.std.specs.Prelude.{◌≡◌, ◌<◌};
 ghost use Rattle.pairs.specs.Pairs.{pair_count, feeding as feeding_of, fed as fed_of, list_test, multiple, period_of, unfit};
 

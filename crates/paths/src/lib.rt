@@ -1,4 +1,6 @@
 // The placement that the walk carries, with one choice changed.
+#![tactic(auto)]
+
 ghost use Rattle.std.specs.Prelude.{◌≡◌, cond, ◌<◌, eqb, set};
 
 // a where c is i, and b otherwise.

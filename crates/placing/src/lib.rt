@@ -1,4 +1,6 @@
 // The test of a core number, and all tests of a placing in their order, for a checked task set.
+#![tactic(auto)]
+
 ghost use Rattle.std.specs.Prelude.{◌≡◌};
 ghost use Rattle.taskset.specs.Promise.{Checked};
 ghost use Rattle.placing.specs.Tests.{core_test, placing_outcome};

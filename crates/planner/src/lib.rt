@@ -1,4 +1,6 @@
 // The exact planner: the best plan of a stored table, within a step limit.
+#![tactic(auto)]
+
 ghost use Rattle.std.specs.Prelude.{◌≡◌};
 ghost use Rattle.taskset.specs.Promise.{Checked, Reads};
 ghost use Rattle.taskset.specs.Table.{Decided};
@@ -10,7 +12,7 @@ use refusal::{Cause, Outcome};
 use taskset::{Reading, TaskSet};
 
 // What the planner says of a plan.
-#[derive(Drop)]
+#[derive(Clone, Copy)]
 pub enum Verdict {
     // Nothing is left out.
     All,
@@ -23,7 +25,7 @@ pub enum Verdict {
 }
 
 // The answer: for each task in table order its core, from 1, or 0 for left out; entries beyond n are 0.
-#[derive(Drop)]
+#[derive(Clone, Copy)]
 pub struct Allocation {
     pub verdict: Verdict,
     pub placement: [u8; 16],

@@ -1,4 +1,6 @@
 // The sum of products that the step ceiling is, over the core bytes of tasks.
+#![tactic(auto)]
+
 ghost use Rattle.std.specs.Prelude.{◌≡◌, ◌+◌, ◌*◌, ◌≤◌, ◌<◌, min, take};
 ghost use Rattle.products.specs.Products.{some_tied, factor_for, sum_of_products};
 

@@ -1,4 +1,6 @@
 // The drive-bus profile: the periods that the bus clock divides into, and the test of a table's periods for them.
+#![tactic(auto)]
+
 ghost use Rattle.std.specs.Prelude.{◌≡◌, ◌↔◌, ◌≢◌, ◌≤◌};
 ghost use Rattle.std.specs.Int.{◌∣◌};
 ghost use Rattle.numbers.specs.First.{first};

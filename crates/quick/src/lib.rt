@@ -1,4 +1,6 @@
 // The quick plan: first fit over the tasks in planning order, without a search and without a step limit.
+#![tactic(auto)]
+
 ghost use Rattle.std.specs.Prelude.{◌≡◌};
 ghost use Rattle.taskset.specs.Promise.{Checked, Reads};
 ghost use Rattle.taskset.specs.Table.{Decided};
@@ -10,7 +12,7 @@ use refusal::{Cause, Outcome};
 use taskset::{Reading, TaskSet};
 
 // The answer: for each task in table order its core, from 1, or 0 for left out, entries beyond n 0; and the left-out weight.
-#[derive(Drop)]
+#[derive(Clone, Copy)]
 pub struct QuickPlan {
     pub outcome: Outcome,
     pub placement: [u8; 16],

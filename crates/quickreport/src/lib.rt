@@ -1,4 +1,6 @@
 // The whole output of the program `quickplan` for the bytes of a table in the new form.
+#![tactic(auto)]
+
 ghost use Rattle.std.specs.Prelude.{◌≡◌, ◌≤◌};
 ghost use Rattle.newform.specs.Limits.{new};
 ghost use Rattle.text.specs.Shown.{shown, Appended};

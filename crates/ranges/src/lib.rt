@@ -1,4 +1,6 @@
 // Whether a task's period, budget, cost or core byte is out of its range.
+#![tactic(auto)]
+
 ghost use Rattle.std.specs.Prelude.{◌≡◌, ◌≤◌, ◌<◌};
 ghost use Rattle.fields.specs.Tests.{bad_period, bad_budget, bad_cost, bad_affinity};
 

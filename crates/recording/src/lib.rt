@@ -1,4 +1,6 @@
 // Writing a run log: the tests of the answers and of the row, the end of each run, and the record that it makes.
+#![tactic(auto)]
+
 ghost use Rattle.std.specs.Prelude.{◌≡◌, ◌<◌, ◌≤◌, ◌+◌, length, drop, get_or};
 ghost use Rattle.runs.specs.Runs.{lead};
 ghost use Rattle.recording.specs.Tests.{Surveyed, write_answer};
@@ -10,7 +12,7 @@ use runs::{Logged, Run};
 pub const MOST: usize = 60000;
 
 // What one pass over the answers finds: the first above 16, from 1, or 0 for none; and then how many records they need.
-#[derive(Drop)]
+#[derive(Clone, Copy)]
 struct Survey {
     above: usize,
     needed: usize,

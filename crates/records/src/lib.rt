@@ -1,4 +1,6 @@
 // The tests of a record's slots: whether every one can be, and which is the first that cannot.
+#![tactic(auto)]
+
 ghost use Rattle.std.specs.Prelude.{◌≡◌, ◌≤◌, eqb};
 ghost use Rattle.edf.specs.Slots.{first_wrong};
 

@@ -32,10 +32,12 @@ first_unique (c ∷ cs) (inl a) (inl b) = (a.0 ∙ sym b.0, place_unique c a.1 b
 first_unique (c ∷ cs) {p = p} (inl a) (inr b) = absurd (fails_nowhere c p b.0 a.1)
 first_unique (c ∷ cs) {q = q} (inr a) (inl b) = absurd (fails_nowhere c q a.0 b.1)
 first_unique (c ∷ cs) (inr a) (inr b) = first_unique cs a.1 b.1
+first_unique [] {k = k} {l = l} {p = p} {q = q} x'' _ = elim x'' [ ]
 
 pub none_first : (cs : List Condition) (k p : ℕ) → None cs → First cs k p → ⊥
 none_first (c ∷ cs) k p n (inl a) = fails_nowhere c p n.0 a.1
 none_first (c ∷ cs) k p n (inr a) = none_first cs k p n.1 a.1
+none_first [] k p n x'' = elim x'' [ ]
 
 -- a list after another
 pub none-append : (cs ds : List Condition) → None (cs ++ ds) ↔ (None cs × None ds)
@@ -53,6 +55,7 @@ a also b = (a, b)
 first-front : (cs ds : List Condition) (k p : ℕ) → First cs k p → First (cs ++ ds) k p
 first-front (c ∷ cs) ds k p (inl a) = inl a
 first-front (c ∷ cs) ds k p (inr a) = inr (a.0, first-front cs ds k p a.1)
+first-front [] ds k p x' = elim x' [ ]
 
 pub first-behind : (cs ds : List Condition) (k p : ℕ) → None cs → First ds k p → First (cs ++ ds) k p
 first-behind [] ds k p n f = f
@@ -72,6 +75,7 @@ Numbers P (c ∷ cs) = P (numbered c) × Numbers P cs
 pub first_number : (P : ℕ → Type 0) (cs : List Condition) → Numbers P cs → (k p : ℕ) → First cs k p → P k
 first_number P (c ∷ cs) h k p (inl a) = rw a.0 h.0
 first_number P (c ∷ cs) h k p (inr a) = first_number P cs h.1 k p a.1
+first_number P [] h k p x'' = elim x'' [ ]
 
 -- a condition that does not hold where those before it do not can be left out of a list
 module _ (c : Condition) (ds : List Condition) where

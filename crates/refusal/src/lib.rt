@@ -1,9 +1,11 @@
 // Why a call is refused, and tests made in order.
+#![tactic(auto)]
+
 ghost use Rattle.std.specs.Prelude.{◌≡◌};
 ghost use Rattle.refusal.specs.Tests.{◌then◌, refuse_if, room_test};
 
 // The paper's causes, with the task, slot, pair, answer or record where it names one, counted from 1.
-#[derive(Drop)]
+#[derive(Clone, Copy)]
 pub enum Cause {
     TooShort,
     TaskCount,
@@ -33,7 +35,7 @@ pub enum Cause {
 }
 
 // What a test, or several made in order, say of a call.
-#[derive(Drop)]
+#[derive(Clone, Copy)]
 pub enum Outcome {
     Accepted,
     Refused(Cause),

@@ -1,4 +1,6 @@
 // A relation between the numbers 0 to 16 as a row of cells: which task feeds which, one pair more, the lowest task on a circle.
+#![tactic(auto)]
+
 ghost use Rattle.std.specs.Prelude.{◌≡◌, ◌≤◌, ◌<◌};
 ghost use Rattle.numbers.specs.First.{first};
 ghost use Rattle.precedence.specs.Circles.{through, reach, circular};

@@ -1,4 +1,6 @@
 // The release of one slot: what its task is owed for a period, and the slot that is released.
+#![tactic(auto)]
+
 ghost use Rattle.std.specs.Prelude.{◌≡◌, ◌+◌, ◌≤◌, min};
 ghost use Rattle.edf.specs.Tick.{owed_for, released as released_of};
 

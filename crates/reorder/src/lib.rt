@@ -1,4 +1,6 @@
 // Rows put into the order of a list of the tasks, and back into table order.
+#![tactic(auto)]
+
 ghost use Rattle.std.specs.Prelude.{◌≡◌, take};
 ghost use Rattle.numbers.specs.Rows.{row, entry};
 ghost use Rattle.numbers.specs.Reorder.{gather, scatter};

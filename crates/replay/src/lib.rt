@@ -1,4 +1,6 @@
 // Expanding a run log: the tests of the records and of the row, and the ticks of one record.
+#![tactic(auto)]
+
 ghost use Rattle.std.specs.Prelude.{◌≡◌, ◌≤◌};
 ghost use Rattle.runs.specs.Fit.{unfit};
 ghost use Rattle.replay.specs.Tests.{audit_start, audited, audit_answer, painted, to_paint};
@@ -8,7 +10,7 @@ use runs::{Logged, Run};
 
 // What looking at records in order has found: the first unfit one, from 1, or 0 for none so far; then the task of the last, the sum of
 // the lengths, and how many were looked at.
-#[derive(Drop)]
+#[derive(Clone, Copy)]
 pub struct Audit {
     pub unfit: usize,
     pub before: u32,

@@ -1,4 +1,6 @@
 // The whole output of the program `millplan` for the bytes of a table in the new form.
+#![tactic(auto)]
+
 ghost use Rattle.std.specs.Prelude.{◌≡◌, ◌≤◌};
 ghost use Rattle.taskset.specs.Promise.{Reads};
 ghost use Rattle.newform.specs.Limits.{new};

@@ -1,4 +1,6 @@
 // Rows of sixteen read from bytes, as tables store them.
+#![tactic(auto)]
+
 ghost use Rattle.std.specs.Prelude.{◌≡◌, ◌<◌};
 ghost use Rattle.numbers.specs.Rows.{row};
 ghost use Rattle.wire.specs.Bytes.{word_at, byte_at};

@@ -1,4 +1,6 @@
 // The run log's two calls, over a lent row of records: thin loops over functions that are proved apart.
+#![tactic(auto)]
+
 ghost use Rattle.std.specs.Prelude.{◌≡◌, ◌≤◌, length, take};
 ghost use Rattle.refusal.specs.Causes.{number_in};
 ghost use Rattle.refusal.specs.Conditions.{Decides};

@@ -1,4 +1,6 @@
 // The runner of one core: its record and one tick.
+#![tactic(auto)]
+
 ghost use Rattle.std.specs.Prelude.{◌≡◌, ◌≢◌, ◌≤◌};
 ghost use Rattle.edf.specs.Slots.{each};
 ghost use Rattle.edf.specs.Tick.{run as run_slot, stepped as stepped_of, tick as tick_of};
@@ -13,14 +15,14 @@ use edf::Slot;
 use refusal::{Cause, Outcome};
 
 // A core record. Slot k is task k's, and is occupied if its period is not 0; `charge` is the board's switch charge.
-#[derive(Drop)]
+#[derive(Clone, Copy)]
 pub struct Core {
     pub slots: [Slot; 16],
     pub charge: u32,
 }
 
 // What a tick hands back: the next record, the task run (0 for idle), the late task (0 for none), and whether it was refused.
-#[derive(Drop)]
+#[derive(Clone, Copy)]
 pub struct Ticked {
     pub core: Core,
     pub run: usize,

@@ -1,4 +1,6 @@
 // The run log: its records, and the answer of a call that writes or expands one.
+#![tactic(auto)]
+
 ghost use Rattle.std.specs.Prelude.{◌≡◌};
 ghost use Rattle.runs.specs.Lent.{logged_by};
 
@@ -6,7 +8,7 @@ use refusal::Outcome;
 
 // A record: a task, or 0 for none, that had the core from tick `first` on for `length` ticks.
 #[repr(C)]
-#[derive(Drop)]
+#[derive(Clone, Copy)]
 pub struct Run {
     pub task: u32,
     pub first: u32,
@@ -14,7 +16,7 @@ pub struct Run {
 }
 
 // The answer of a call on a log: how many records were written or answers filled in; 0 beside a refusal.
-#[derive(Drop)]
+#[derive(Clone, Copy)]
 pub struct Logged {
     pub outcome: Outcome,
     pub count: usize,

@@ -1,4 +1,6 @@
 // The search: what the walk is given beside the demands is computed, then the walk is made.
+#![tactic(auto)]
+
 ghost use Rattle.std.specs.Prelude.{◌≡◌, take};
 ghost use Rattle.allocation.specs.Placement.{problem_of};
 ghost use Rattle.allocation.specs.Walk.{answer};

@@ -1,4 +1,6 @@
 // The order of tasks that feed each other, from the cells that say which feeds which.
+#![tactic(auto)]
+
 ghost use Rattle.std.specs.Prelude.{◌≡◌, ◌≤◌, ◌<◌};
 ghost use Rattle.numbers.specs.Rows.{padded};
 ghost use Rattle.precedence.specs.Sequence.{waits as waits_of, next_task, ordered};

@@ -1,4 +1,6 @@
 // One slot of a core record: the empty one, whether one can be, and the late task and the choice with it.
+#![tactic(auto)]
+
 ghost use Rattle.std.specs.Prelude.{◌≡◌, ◌≤◌};
 ghost use Rattle.edf.specs.Slots.{empty_slot, cannot_be};
 ghost use Rattle.slots.specs.SoFar.{late_so_far, choice_so_far};

@@ -1,4 +1,6 @@
 // The lines of Rattle that docs/CALLING.md shows, as they stand there, in functions that are proved.
+#![tactic(auto)]
+
 ghost use Rattle.std.specs.Prelude.{◌≡◌, [], ◌∷◌, ◌≢◌, ◌≤◌, min};
 ghost use Rattle.oldform.specs.Limits.{beside};
 ghost use Rattle.planner.specs.Plan.{plan_of};

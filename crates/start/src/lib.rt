@@ -1,4 +1,6 @@
 // A fresh core: the record that a core of a table starts from under a placement, or a refusal.
+#![tactic(auto)]
+
 ghost use Rattle.std.specs.Prelude.{◌≡◌, ◌≤◌};
 ghost use Rattle.edf.specs.Fresh.{slot_for, fresh_slots};
 ghost use Rattle.taskset.specs.Promise.{Checked};
@@ -16,7 +18,7 @@ use runner::Core;
 use taskset::TaskSet;
 
 // What a fresh core hands back: its record, or zeros and the cause of refusal.
-#[derive(Drop)]
+#[derive(Clone, Copy)]
 pub struct Started {
     pub outcome: Outcome,
     pub core: Core,

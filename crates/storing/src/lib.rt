@@ -1,4 +1,6 @@
 // What any call does that stores a table's fields in a lent output: the tests before, the room, the bytes in front, and the answer.
+#![tactic(auto)]
+
 ghost use Rattle.std.specs.Prelude.{◌≡◌, length};
 ghost use Rattle.refusal.specs.Tests.{◌then◌, room_test};
 ghost use Rattle.refusal.specs.declared.Cause.TheVariants.{Buffer};
@@ -11,7 +13,7 @@ use refusal::{Cause, Outcome};
 use taskset::Reading;
 
 // The answer of a call that stores a table in a lent output: the table's length, or 0 beside a refusal.
-#[derive(Drop)]
+#[derive(Clone, Copy)]
 pub struct Transfer {
     pub outcome: Outcome,
     pub length: usize,

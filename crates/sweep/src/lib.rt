@@ -1,4 +1,6 @@
 // The one pass of a tick over the slots of a record.
+#![tactic(auto)]
+
 ghost use Rattle.std.specs.Prelude.{List};
 ghost use Rattle.edf.specs.declared.Slot.{Slot};
 ghost use Rattle.sweep.specs.Sweep.{AllCanBe, AfterSlots, Passing};
@@ -6,7 +8,7 @@ ghost use Rattle.sweep.specs.Sweep.{AllCanBe, AfterSlots, Passing};
 use edf::{Claim, Slot};
 
 // What the pass over the slots leaves: the slots, the late task and the choice.
-#[derive(Drop)]
+#[derive(Clone, Copy)]
 pub struct Swept {
     pub slots: [Slot; 16],
     pub late: usize,

@@ -1,4 +1,6 @@
 // A task set: the check of its fields, its hyperperiod and its exact demands, or a refusal.
+#![tactic(auto)]
+
 ghost use Rattle.std.specs.Prelude.{◌≡◌, ◌/◌, ◌≤◌, ◌<◌};
 ghost use Rattle.numbers.specs.Rows.{row};
 ghost use Rattle.refusal.specs.Tests.{◌then◌, in_order};
@@ -15,7 +17,7 @@ use fields::{Fields, MOST_TASKS};
 use refusal::{Cause, Outcome};
 
 // A task set: fields within the limits, their hyperperiod (the paper's frame H) and the exact demand (its weight) of each task.
-#[derive(Drop)]
+#[derive(Clone, Copy)]
 pub struct TaskSet {
     pub fields: Fields,
     pub hyperperiod: u32,
@@ -23,7 +25,7 @@ pub struct TaskSet {
 }
 
 // The answer of a check of fields, and so of every reader: a refusal has zeros beside its cause.
-#[derive(Drop)]
+#[derive(Clone, Copy)]
 pub struct Reading {
     pub outcome: Outcome,
     pub tasks: TaskSet,

@@ -1,9 +1,11 @@
 // A text by value, built up piece by piece. What does not fit is dropped; a piece that fits is kept whole.
+#![tactic(auto)]
+
 ghost use Rattle.std.specs.Prelude.{◌≡◌, [], ◌∷◌, length};
 ghost use Rattle.text.specs.Shown.{shown, Appended};
 
 // The first `length` bytes are shown.
-#[derive(Drop)]
+#[derive(Clone, Copy)]
 pub struct Text {
     pub bytes: [u8; 2560],
     pub length: usize,

@@ -1,4 +1,6 @@
 // Moves the table on standard input to the new form, on standard output. A refusal is said on standard error.
+#![tactic(auto)]
+
 fn main() {
     let mut buffer = [0u8; 131];
     let length = console::read_next(&mut buffer, 131);

@@ -1,4 +1,6 @@
 // Tables into lent outputs: the writer of the new form, the move from the old form to the new one, and the move back.
+#![tactic(auto)]
+
 ghost use Rattle.std.specs.Prelude.{◌≡◌, ◌+◌, ◌*◌, ◌≤◌, ◌<◌, length, get_or};
 ghost use Rattle.numbers.specs.First.{first};
 ghost use Rattle.refusal.specs.declared.Cause.TheVariants.{Buffer};

@@ -1,4 +1,6 @@
 // Whether a core is tried for a task: it has room, and where it is empty no lower twin is.
+#![tactic(auto)]
+
 ghost use Rattle.std.specs.Prelude.{◌≡◌, not, ◌&&◌, ◌+◌, ◌<◌, ◌≤◌, eqb, leb, get_or};
 ghost use Rattle.affinity.specs.Permitted.{permitted};
 ghost use Rattle.twins.specs.EmptyTwin.{some_zero_twin};

@@ -1,11 +1,13 @@
 // The walk over placements as nested loops, on demands in planning order.
+#![tactic(auto)]
+
 ghost use Rattle.std.specs.Prelude.{◌≡◌, take};
 ghost use Rattle.allocation.specs.Placement.{problem_of};
 ghost use Rattle.allocation.specs.Walk.{answer};
 ghost use Rattle.walk.specs.Given.{Prepared, found_of};
 
 // What the walk found: the stored placement in planning order, entries beyond the tasks 0.
-#[derive(Drop)]
+#[derive(Clone, Copy)]
 pub struct Found {
     pub placement: [u8; 16],
     pub rejected: u32,

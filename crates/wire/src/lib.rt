@@ -1,4 +1,6 @@
 // Numbers read from bytes, as tables and cases store them.
+#![tactic(auto)]
+
 ghost use Rattle.std.specs.Prelude.{◌≡◌, ◌<◌, get_or};
 ghost use Rattle.wire.specs.Bytes.{le32};
 

@@ -1,8 +1,0 @@
--- A store within the row, or nothing.
-use borrow.Author.Rules.{rules}
-use Rattle.numbers.proofs.RowLaws.{set_past}
-use Rattle.numbers.proofs.with_byte.Statement.{statement}
-use Rattle.numbers.proofs.with_byte.Tie as tie
-
-pub with-byte-spec : {M : Type 1} → statement M
-with-byte-spec = tie.close (tie.spec (λ c. search rules) (λ c. search rules) (λ c. search (rules, set_past)))
