@@ -50,7 +50,6 @@ def collect():
     definitions, lemmas, fields, functions = set(LIBRARY), set(), set(), set()
     camel = set()
     for f in sources("rt"):
-        functions |= set(re.findall(r"\bfn (\w+)", text(f)))
         camel |= {w for w in WORD.findall(text(f)) if "-" not in w and re.match(r"[a-z]", w) and re.search(r"[A-Z]", w)}
     for f in sources("antt"):
         s = plain(text(f))
@@ -65,11 +64,11 @@ def collect():
             if "abbrev" in marks or "unfoldable" in marks:
                 definitions.add(snake(name))
             lemmas.add(name)
-    return definitions, lemmas, fields, functions, camel - KIT
+    return definitions, lemmas, fields, camel - KIT
 
 
 def mapping():
-    definitions, lemmas, fields, functions, camel = collect()
+    definitions, lemmas, fields, camel = collect()
     names = {w: snake(w) for w in camel}
     names |= {w: snake(w) for w in lemmas if w.startswith("getD")}
     for w in lemmas:
@@ -77,8 +76,7 @@ def mapping():
             names[w] = parts_joined(w, definitions)
             if "-" in w and names[w] in definitions:
                 names[w] += "_fact" if w in fields else "_lem"
-    made = {f.replace("_", "-") for f in functions}
-    behind_dot = {w: n for w, n in names.items() if "-" not in w or (w in fields and w not in made)}
+    behind_dot = {w: n for w, n in names.items() if "-" not in w or w in fields}
     return {w: n for w, n in names.items() if w != n}, {w: n for w, n in behind_dot.items() if w != n}
 
 

@@ -13,7 +13,7 @@ use borrow.Author.Tests.{eq-eqb, ne_eqb, eqb-true}
 use Rattle.allocation.specs.Placement.{Problem, rejected}
 use Rattle.allocation.specs.Best.{Earlier, core_core, core_none, Before, here, there}
 use Rattle.allocation.specs.Walk.{Step, inner, leaf, step_into, bound_after, entered, try_all, visit, choices, up_from, trace}
-use Rattle.allocation.specs.EntryRule.{Enters, all_demands}
+use Rattle.allocation.specs.EntryRule.{demands_with, Enters, all_demands}
 use Rattle.allocation.specs.DepthFirst.{Sooner, Among, incumbent_from, incumbent, MayFollow, Next, Follow, DepthFirst}
 use Rattle.allocation.proofs.Demands.{total-all, load_with}
 use Rattle.allocation.proofs.Order.{earlier_ne, before_asym, before_at}
@@ -175,7 +175,7 @@ module _ (P : Problem) where
   incumbent-append : (b : ℕ) (made more : List (List ℕ)) → incumbent_from P b (made ++ more) ≡ incumbent_from P (incumbent_from P b made) more
   unfolding incumbent_from
   incumbent-append b [] more = refl
-  incumbent-append b (p ∷ made) more = incumbent-append _ made more
+  incumbent-append b (p ∷ made) more = incumbent-append (cond (eqb (length p) n) (demands_with P 0 p) b) made more
 
 -- ---- the steps follow
 

@@ -92,7 +92,7 @@ module _ (P : Problem) (p : List ℕ) (c d : ℕ) (a : Alike P p c d) (r : List 
   load-swapped x =
       demand_on-append x P.demands p (map (swap c d) r)
       ∙ rw (demand_on_swap c d x) (ap (λ (n : ℕ). n + demand_on (swap c d x) (drop (length p) P.demands) r) (swap_cases c d (λ y z. load P y p ≡ load P z p)
-      (a.first-empty ∙ sym a.second_empty) (a.second_empty ∙ sym a.first-empty) (λ y n k. refl) x))
+      (a.first_empty ∙ sym a.second_empty) (a.second_empty ∙ sym a.first_empty) (λ y n k. refl) x))
       ∙ sym (demand_on-append (swap c d x) P.demands p r)
 
   swapped_rejects : rejected P swapped ≡ rejected P (p ++ r)

@@ -155,9 +155,9 @@ module _ (s : List ℕ) where
         (first_either (earlier s) behind _ _ (r.refused e.0 e.1)))
         (outcome_cases o)
 
-  before-said : None (earlier s) ↔ (OneOf early (number_in (new s).outcome) → ⊥)
+  before_said : None (earlier s) ↔ (OneOf early (number_in (new s).outcome) → ⊥)
   unfolding new
-  before-said = let r = (new-tested s).reports in (none-early r, early-none r)
+  before_said = let r = (new-tested s).reports in (none-early r, early-none r)
 
   -- ---- what is promised of the outcome
 
@@ -178,7 +178,7 @@ module _ (s : List ℕ) where
     profile_kept = record {
       unlisted = at_task;
       undivided = λ task. (λ g. (by_division task).0 ((at_task task).0 g), λ h. (at_task task).1 ((by_division task).1 h));
-      before = before-said;
+      before = before_said;
       agrees = λ n. e ∙ unless s (λ z. n (ap number_in e ∙ z));
       never = never_seven;
     }

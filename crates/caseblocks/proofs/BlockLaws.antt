@@ -14,9 +14,9 @@ pub block_kept : {r n : ℕ} (before after : List ℕ) → r ≤ n → n ≤ r �
 block_kept {r} {n} before after h g p = let e : n ≡ r = omega arith in rw e at p
 
 -- a number of the block's front
-pub front-word : (s : List ℕ) (k : ℕ) {v : ℕ} → v ≡ le32 s (4 * k) → v ≡ word_at s 0 k
+pub front_word : (s : List ℕ) (k : ℕ) {v : ℕ} → v ≡ le32 s (4 * k) → v ≡ word_at s 0 k
 unfolding word_at
-front-word s k e = rw zero-add e
+front_word s k e = rw zero-add e
 
 -- a slot's four numbers
 pub slot_read : (s : List ℕ) (k : ℕ) {p b u o : ℕ} → p ≡ le32 s (16 * k) → b ≡ le32 s (16 * k + 4) → u ≡ le32 s (16 * k + 8) → o ≡ le32 s (16 * k + 12)

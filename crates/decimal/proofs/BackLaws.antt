@@ -159,7 +159,7 @@ field_part {bytes} x p =
     let n = number_part x in
     record {
       reads = ap (map item) (pieces_split 32 bytes (decimal x)) ∙ map-append item (pieces 32 bytes) (pieces 32 (decimal x)) ∙ ap₂ ◌++◌ p.reads n.reads;
-      no_feed = lacks-append 10 bytes (32 ∷ decimal x) p.no-feed n.no-feed;
+      no_feed = lacks-append 10 bytes (32 ∷ decimal x) p.no_feed n.no_feed;
     }
 
 -- the bytes of a whole line, before any others
@@ -172,5 +172,5 @@ line_ends {bytes} p = record {
   read = λ rest.
       ap (λ s. map read_line (pieces 10 s)) (append_assoc bytes (10 ∷ []) rest)
       ∙ ap (map read_line) (pieces_split 10 bytes rest)
-      ∙ rw (pieces_whole 10 bytes p.no-feed, p.reads);
+      ∙ rw (pieces_whole 10 bytes p.no_feed, p.reads);
 }

@@ -25,9 +25,9 @@ module _ (input : List ℕ) where
   unfolding no_count
   count_right some few = rw (le-ltb (get_or input 1 0) 1 some) (le-ltb 16 (get_or input 1 0) few)
 
-  bytes-there : 4 + 9 * get_or input 1 0 ≤ length input → too_few input ≡ false
+  bytes_there : 4 + 9 * get_or input 1 0 ≤ length input → too_few input ≡ false
   unfolding too_few
-  bytes-there there = le-ltb (length input) (4 + 9 * get_or input 1 0) there
+  bytes_there there = le-ltb (length input) (4 + 9 * get_or input 1 0) there
 
   bytes_few : length input < 4 + 9 * get_or input 1 0 → too_few input ≡ true
   unfolding too_few
@@ -64,7 +64,7 @@ module _ (input : List ℕ) where
   unfolding table_in list_in
   split_is = record {
     both = λ some few there.
-        let e : split_at input ≡ 4 + 9 * get_or input 1 0 = ends_tasks (rw (count_right some few, bytes-there there)) in
+        let e : split_at input ≡ 4 + 9 * get_or input 1 0 = ends_tasks (rw (count_right some few, bytes_there there)) in
         (take-append-drop (split_at input) input, length-take-le (split_at input) input (omega arith) ∙ e);
     short = λ some few less. all_table (rw (bytes_few less, or-true));
     other = λ o. all_table (rw (count-other o));

@@ -17,7 +17,7 @@ use Rattle.recording.proofs.WriteLaws.{log_accepted}
 use Rattle.recording.proofs.PromiseLaws.{write_decides, writes, writable, write_accepts, write_said, all_low, low_entry, log_front}
 use Rattle.replay.specs.Tests.{expand_outcome, row_after}
 use Rattle.replay.proofs.PaintLaws.{expand_accepted, expand_accepts}
-use Rattle.replay.proofs.PromiseLaws.{expand_decides, expands, expand-said, row_accepted}
+use Rattle.replay.proofs.PromiseLaws.{expand_decides, expands, expand_said, row_accepted}
 use Rattle.guarantees.specs.Logging.{write_number, expand_number, needed_of, LogDemand}
 
 -- ---- there and back
@@ -35,7 +35,7 @@ module _ (answers : List ℕ) (records : List Run) (bytes : List ℕ) (z : write
       expand_accepts (runs answers) (length bytes) (runs-all_fit answers (all_low answers w.low) w.few) (total_runs 0 answers ∙ sym e)
 
   back_accepted : expand_number (needed_of answers records) bytes ≡ 0
-  back_accepted = ap (λ (rs : List Run). expand_number rs bytes) front ∙ ap number_in (expand-said (runs answers) (length bytes) ∙ expanded)
+  back_accepted = ap (λ (rs : List Run). expand_number rs bytes) front ∙ ap number_in (expand_said (runs answers) (length bytes) ∙ expanded)
 
   back_same : row_after (needed_of answers records) bytes ≡ answers
   back_same = ap (λ (rs : List Run). row_after rs bytes) front ∙ row_accepted (runs answers) bytes expanded ∙ expand-runs 0 answers
@@ -44,7 +44,7 @@ module _ (answers : List ℕ) (records : List Run) (bytes : List ℕ) (z : write
 
 module _ (records : List Run) (bytes : List ℕ) (row : List Run) (z : expand_number records bytes ≡ 0) (e : length row ≡ length records) where
   filled : expand_outcome records (length bytes) ≡ Accepted
-  filled = sym (expand-said records (length bytes)) ∙ no_number _ z
+  filled = sym (expand_said records (length bytes)) ∙ no_number _ z
 
   there : row_after records bytes ≡ expand records
   there = row_accepted records bytes filled

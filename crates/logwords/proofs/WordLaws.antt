@@ -19,8 +19,8 @@ records_bound (a ∷ []) = (omega arith, omega arith)
 records_bound (a ∷ b ∷ []) = (omega arith, omega arith)
 records_bound (a ∷ b ∷ c ∷ ws) = let ih = records_bound ws in (omega (arith, ih.0), omega (arith, ih.1))
 
-pub records-count : (ws : List ℕ) → length ws / 3 ≡ length (records_in ws)
-records-count ws =
+pub records_count : (ws : List ℕ) → length ws / 3 ≡ length (records_in ws)
+records_count ws =
     let b = records_bound ws in
     let three : 0 < 3 = omega arith in
     let m = mod-lt (length ws) three in
@@ -62,20 +62,20 @@ record_at (a ∷ b ∷ c ∷ ws) (suc k) h = rw (second k, third k, triple k) (r
 
 -- ---- one more is stored
 
-pub stored-records : (ws : List ℕ) (k : ℕ) (r : Run) → k < length (records_in ws) → records_in (stored ws k r) ≡ set (records_in ws) k r
+pub stored_records : (ws : List ℕ) (k : ℕ) (r : Run) → k < length (records_in ws) → records_in (stored ws k r) ≡ set (records_in ws) k r
 unfolding stored
-stored-records [] k r h = absurd (omega (arith, h))
-stored-records (a ∷ []) k r h = absurd (omega (arith, h))
-stored-records (a ∷ b ∷ []) k r h = absurd (omega (arith, h))
-stored-records (a ∷ b ∷ c ∷ ws) zero r h = refl
-stored-records (a ∷ b ∷ c ∷ ws) (suc k) r h = rw (second k, third k, triple k) (ap (λ (rs : List Run). run a b c ∷ rs) (stored-records ws k r (omega (arith, h))))
+stored_records [] k r h = absurd (omega (arith, h))
+stored_records (a ∷ []) k r h = absurd (omega (arith, h))
+stored_records (a ∷ b ∷ []) k r h = absurd (omega (arith, h))
+stored_records (a ∷ b ∷ c ∷ ws) zero r h = refl
+stored_records (a ∷ b ∷ c ∷ ws) (suc k) r h = rw (second k, third k, triple k) (ap (λ (rs : List Run). run a b c ∷ rs) (stored_records ws k r (omega (arith, h))))
 
 pub stored-length : (ws : List ℕ) (k : ℕ) (r : Run) → length (stored ws k r) ≡ length ws
 unfolding stored
 stored-length ws k r = simp length-set
 
 pub stored-count : (ws : List ℕ) (k : ℕ) (r : Run) → k < length (records_in ws) → length (records_in (stored ws k r)) ≡ length (records_in ws)
-stored-count ws k r h = ap (λ (rs : List Run). length rs) (stored-records ws k r h) ∙ length-set (records_in ws) k r
+stored-count ws k r h = ap (λ (rs : List Run). length rs) (stored_records ws k r h) ∙ length-set (records_in ws) k r
 
 -- what stands behind the last whole record stays
 pub stored-behind : (ws : List ℕ) (k n : ℕ) (r : Run) → k < length (records_in ws) → k < n → drop (3 * n) (stored ws k r) ≡ drop (3 * n) ws

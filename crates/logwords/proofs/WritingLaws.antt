@@ -11,7 +11,7 @@ use Rattle.recording.specs.Tests.{write_answer, log_after}
 use Rattle.recording.proofs.PassLaws.{Ends, pass_end}
 use Rattle.recording.proofs.WriteLaws.{Counted, counted, filled, filled-length, filled_step, log_filled, Passed, passed_inside, passed_next, passed_run, IsRun}
 use Rattle.logwords.specs.Words.{records_in, numbers_of, stored, words_after}
-use Rattle.logwords.proofs.WordLaws.{stored-records, stored-length, stored-behind, numbers_back}
+use Rattle.logwords.proofs.WordLaws.{stored_records, stored-length, stored-behind, numbers_back}
 
 pub record Writing (xs ws₀ ws : List ℕ) (count k at : ℕ) : Type 0 where
   pub below : k ≤ count
@@ -56,15 +56,15 @@ module _ {xs ws₀ ws : List ℕ} {k at : ℕ} (answer : Logged) (ea : answer �
         inside = p.1;
         long = ap (λ (l : List ℕ). length l) s ∙ stored-length ws k r ∙ w.long;
         records =
-            ap records_in s ∙ stored-records ws k r (next_there h) ∙ ap (λ (rs : List Run). set rs k r) w.records
+            ap records_in s ∙ stored_records ws k r (next_there h) ∙ ap (λ (rs : List Run). set rs k r) w.records
             ∙ filled_step (runs xs) k (records_in ws₀) r (omega (arith, h, b)) (omega (arith, h, d)) (passed_run xs k at end r w.passed (omega (arith, h, b)) e f);
         behind = ap (drop (3 * length (records_in ws₀))) s ∙ stored-behind ws k (length (records_in ws₀)) r (next_there h) (omega (arith, h, d)) ∙ w.behind;
         passed = passed_next xs k at end w.passed (omega (arith, h, b)) e;
       }
 
   -- all are written
-  pub written-records : answer.count ≤ k → records_in ws ≡ log_after xs (records_in ws₀)
-  written-records h =
+  pub written_records : answer.count ≤ k → records_in ws ≡ log_after xs (records_in ws₀)
+  written_records h =
       let a = w.below in
       let all : k ≡ (write_answer xs (length (records_in ws₀))).count = (let n = ap (λ (x : Logged). x.count) ea in omega (arith, n, a, h)) in
       w.records ∙ ap (λ (n : ℕ). filled (runs xs) n (records_in ws₀)) all ∙ log_filled xs (records_in ws₀)
@@ -72,6 +72,6 @@ module _ {xs ws₀ ws : List ℕ} {k at : ℕ} (answer : Logged) (ea : answer �
   pub written : answer.count ≤ k → ws ≡ words_after xs ws₀
   unfolding words_after
   written h =
-      sym (numbers_back ws) ∙ ap (λ (rs : List Run). numbers_of rs ++ drop (3 * length (records_in ws)) ws) (written-records h)
+      sym (numbers_back ws) ∙ ap (λ (rs : List Run). numbers_of rs ++ drop (3 * length (records_in ws)) ws) (written_records h)
       ∙ ap (λ (n : ℕ). numbers_of (log_after xs (records_in ws₀)) ++ drop (3 * n) ws) as_many
       ∙ ap (λ (l : List ℕ). numbers_of (log_after xs (records_in ws₀)) ++ l) w.behind

@@ -8,7 +8,7 @@ use native.Mathlib.Omega.{arith}
 use Rattle.numbers.specs.Rows.{row, tab}
 use Rattle.numbers.proofs.RowLaws.{row_cong, row_again, take-row_tab}
 use Rattle.wire.specs.Bytes.{word_at, byte_at, bytes_of_all, Bytes}
-use Rattle.wire.proofs.ReadBackLaws.{read_back, byte-front, word-front}
+use Rattle.wire.proofs.ReadBackLaws.{read_back, byte-front, word_front}
 use Rattle.wire.proofs.WriteBackLaws.{words_back, row_back, part_back, front_long, front_bytes, front_words}
 use Rattle.fields.specs.Fields.{period_at, budget_at, affinity_at, cut}
 use Rattle.fields.specs.Limits.{Within}
@@ -84,8 +84,8 @@ module _ (f : Fields) (w : Within f) where
     tasks = refl;
     cores = refl;
     charge = refl;
-    periods = λ k h. word-front (new_bytes f) behind (4 + 4 * k) (omega (arith, new_long)) ∙ periods_read k h;
-    budgets = λ k h. word-front (new_bytes f) behind (4 + 4 * f.n + 4 * k) (omega (arith, new_long)) ∙ budgets_read k h;
+    periods = λ k h. word_front (new_bytes f) behind (4 + 4 * k) (omega (arith, new_long)) ∙ periods_read k h;
+    budgets = λ k h. word_front (new_bytes f) behind (4 + 4 * f.n + 4 * k) (omega (arith, new_long)) ∙ budgets_read k h;
     affinity = λ k h. byte-front (new_bytes f) behind (4 + 8 * f.n + k) (omega (arith, new_long)) ∙ affinity_read k h;
   }
 

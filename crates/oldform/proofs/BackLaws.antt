@@ -8,7 +8,7 @@ use native.Mathlib.Omega.{arith}
 use Rattle.numbers.specs.Rows.{row, tab, entry}
 use Rattle.numbers.proofs.RowLaws.{row_cong, row_again, take-row_tab}
 use Rattle.wire.specs.Bytes.{word_at, bytes_of_all, Bytes}
-use Rattle.wire.proofs.ReadBackLaws.{read_back, word-front}
+use Rattle.wire.proofs.ReadBackLaws.{read_back, word_front}
 use Rattle.wire.proofs.WriteBackLaws.{words_back, part_back, front_long, front_bytes, front_words}
 use Rattle.affinity.specs.Permitted.{every_core}
 use Rattle.fields.specs.Fields.{period_at, budget_at, affinity_at, cut}
@@ -65,8 +65,8 @@ module _ (f : Fields) (w : Within f) where
   old_form behind = record {
     tasks = refl;
     cores = refl;
-    periods = λ k h. word-front (old_bytes f) behind (2 + 4 * k) (omega (arith, old_long)) ∙ periods_read k h;
-    budgets = λ k h. word-front (old_bytes f) behind (2 + 4 * f.n + 4 * k) (omega (arith, old_long)) ∙ budgets_read k h;
+    periods = λ k h. word_front (old_bytes f) behind (2 + 4 * k) (omega (arith, old_long)) ∙ periods_read k h;
+    budgets = λ k h. word_front (old_bytes f) behind (2 + 4 * f.n + 4 * k) (omega (arith, old_long)) ∙ budgets_read k h;
   }
 
 -- A table that was read is written back as it was, whatever stands beside it.

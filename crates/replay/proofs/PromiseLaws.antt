@@ -56,8 +56,8 @@ module _ (rs : List Run) (room : ℕ) where
   pub expand_decides : {answer : Logged} → answer ≡ expand_answer rs room → Decides (Expandable rs room) (expand_conditions rs room) answer.outcome
   expand_decides e = subst (Decides (Expandable rs room) (expand_conditions rs room)) (sym (said e)) (decides expand-tested)
 
-  pub expand-said : (expand_answer rs room).outcome ≡ expand_outcome rs room
-  expand-said = said refl
+  pub expand_said : (expand_answer rs room).outcome ≡ expand_outcome rs room
+  expand_said = said refl
 
 -- ---- what is promised
 

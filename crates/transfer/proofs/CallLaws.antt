@@ -35,7 +35,7 @@ use Rattle.storing.proofs.StorableLaws.{Storable, call_valid, call_stored, yield
 use Rattle.transfer.specs.Tables.{counted, written, filling_test, returned}
 use Rattle.transfer.specs.Promise.{ReadBack, Unread, MovedOn, MovedBack}
 use Rattle.transfer.proofs.FillingLaws.{every_free, free_every, filling_tested}
-use Rattle.transfer.proofs.UnreadLaws.{tested_within, outcome_alike, bytes-alike, within_cut}
+use Rattle.transfer.proofs.UnreadLaws.{tested_within, outcome_alike, bytes_alike, within_cut}
 
 -- ---- the writer
 
@@ -87,7 +87,7 @@ module _ (f : Fields) where
     unfolding written new_bytes
     write_unread h a =
         let o : fields_outcome (counted h) ≡ fields_outcome (counted f) = sym (outcome_alike f h a) in
-        let b : fields_outcome (counted f) ≡ Accepted → new_bytes h ≡ new_bytes f = λ q. sym (bytes-alike f h a (tested_within (counted f) q) (tested_within (counted h) (o ∙ q))) in
+        let b : fields_outcome (counted f) ≡ Accepted → new_bytes h ≡ new_bytes f = λ q. sym (bytes_alike f h a (tested_within (counted f) q) (tested_within (counted h) (o ∙ q))) in
         (transfer_same Buffer o b (length out) ∙ sym e, output_same Buffer o b out ∙ sym g)
 
 -- writing what was read gives the bytes

@@ -64,9 +64,9 @@ module _ (f g : Fields) (a : Alike f g) where
   outcome_alike = rw (same-period, same-budget, same-cost, same_affinity, same-multiple, a.tasks, a.cores, a.charge)
 
   -- so are the bytes of fields that are accepted
-  pub bytes-alike : Within (counted f) → Within (counted g) → new_bytes f ≡ new_bytes g
+  pub bytes_alike : Within (counted f) → Within (counted g) → new_bytes f ≡ new_bytes g
   unfolding new_bytes
-  bytes-alike v w =
+  bytes_alike v w =
       let e = a.tasks in
       let P = front_same f.n f.periods g.periods (periods_there (counted f) v) (rw e (periods_there (counted g) w)) a.periods in
       let B = front_same f.n f.budgets g.budgets (budgets_there (counted f) v) (rw e (budgets_there (counted g) w)) a.budgets in

@@ -26,9 +26,9 @@ digits x h =
 behind-front : (front s : List ℕ) (i j : ℕ) → j ≡ length front + i → get_or (front ++ s) j 0 ≡ get_or s i 0
 behind-front front s i j e = rw e (get_or-append-add front s i 0)
 
-word-behind : (front s : List ℕ) (k : ℕ) → word_at (front ++ s) (length front) k ≡ word_at s 0 k
+word_behind : (front s : List ℕ) (k : ℕ) → word_at (front ++ s) (length front) k ≡ word_at s 0 k
 unfolding word_at
-word-behind front s k =
+word_behind front s k =
     rw (
       behind-front front s (0 + 4 * k) (length front + 4 * k) (omega arith),
       behind-front front s (0 + 4 * k + 1) (length front + 4 * k + 1) (omega arith),
@@ -48,10 +48,10 @@ read_words : (xs : List ℕ) → Words xs → (behind : List ℕ) (k : ℕ) → 
 read_words [] w behind k h = absurd (omega arith)
 read_words (x ∷ xs) w behind zero h = first_word x (bytes_of_all xs ++ behind) w.0
 read_words (x ∷ xs) w behind (suc k) h =
-    next_word (bytes_of x ++ (bytes_of_all xs ++ behind)) k ∙ word-behind (bytes_of x) (bytes_of_all xs ++ behind) k ∙ read_words xs w.1 behind k (omega arith)
+    next_word (bytes_of x ++ (bytes_of_all xs ++ behind)) k ∙ word_behind (bytes_of x) (bytes_of_all xs ++ behind) k ∙ read_words xs w.1 behind k (omega arith)
 
 pub read_back : (xs : List ℕ) → Words xs → ReadBack xs
-read_back xs w = record { each = λ front behind k h. word-behind front (bytes_of_all xs ++ behind) k ∙ read_words xs w behind k h }
+read_back xs w = record { each = λ front behind k h. word_behind front (bytes_of_all xs ++ behind) k ∙ read_words xs w behind k h }
 
 pub length-bytes : (xs : List ℕ) → length (bytes_of_all xs) ≡ 4 * length xs
 length-bytes [] = refl
@@ -61,6 +61,6 @@ length-bytes (x ∷ xs) = omega (arith, length-bytes xs)
 pub byte-front : (s behind : List ℕ) (at : ℕ) → at < length s → get_or (s ++ behind) at 0 ≡ get_or s at 0
 byte-front s behind at h = get_or-append s behind 0 at h
 
-pub word-front : (s behind : List ℕ) (at : ℕ) → at + 4 ≤ length s → le32 (s ++ behind) at ≡ le32 s at
-word-front s behind at h =
+pub word_front : (s behind : List ℕ) (at : ℕ) → at + 4 ≤ length s → le32 (s ++ behind) at ≡ le32 s at
+word_front s behind at h =
     rw (byte-front s behind at (omega arith), byte-front s behind (at + 1) (omega arith), byte-front s behind (at + 2) (omega arith), byte-front s behind (at + 3) (omega arith))

@@ -1,0 +1,13 @@
+-- One task's choice after another is written at its place in the table.
+use Prim.Native.Nat.{◌-◌}
+use Rattle.reorder.proofs.ListedLaws.{scatter_start, scatter_next, scatter_done}
+use Rattle.reorder.proofs.in_table_order.Goals as goal
+
+pub loop-k-init : goal.loop-k-init
+loop-k-init c = scatter_start _ _ _ c.requires
+
+pub loop-k-preserved : goal.loop-k-preserved
+loop-k-preserved c = scatter_next c.loop-k.invariant c.loop-k-test.true c.with_byte-next.ensures
+
+pub returns : goal.returns
+returns c = scatter_done c.loop-k.invariant c.loop-k-test.false
