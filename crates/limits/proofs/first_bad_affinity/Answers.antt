@@ -1,0 +1,16 @@
+-- A search for the first task with an unfit core byte.
+use Rattle.numbers.proofs.FirstLaws.{seek_start, seek_none, looked_on, looked_found}
+use borrow.Author.Rules.{rules}
+use Rattle.limits.proofs.first_bad_affinity.Goals as goal
+
+pub loop-k-init : goal.loop-k-init
+loop-k-init c = search (rules, seek_start)
+
+pub returns-then-is_bad_affinity : goal.returns-then-is_bad_affinity
+returns-then-is_bad_affinity c = search (rules, looked_found)
+
+pub loop-k-preserved : goal.loop-k-preserved
+loop-k-preserved c = search (rules, looked_on)
+
+pub returns : goal.returns
+returns c = search (rules, seek_none)

@@ -1,0 +1,11 @@
+-- A search for the first task whose cost is above its period.
+use Prim.Native.Nat.{◌-◌}
+use Rattle.numbers.proofs.FirstLaws.{Seeking}
+use Rattle.fields.specs.Tests.{bad_cost}
+use Rattle.limits.proofs.first_bad_cost.Given as goal
+
+abbrev pub invariant-loop-k : goal.invariant-loop-k
+invariant-loop-k l = Seeking (bad_cost l.f) l.f.n l.k
+
+abbrev pub decreases-loop-k : goal.decreases-loop-k
+decreases-loop-k l = l.f.n - l.k

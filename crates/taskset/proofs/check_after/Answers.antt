@@ -1,0 +1,13 @@
+-- A refusal of the earlier tests stands; otherwise the limits are tested.
+use Rattle.taskset.proofs.ReadingLaws.{after_refused, after_accepted}
+use borrow.Author.Rules.{rules}
+use Rattle.taskset.proofs.check_after.Goals as goal
+
+pub check_limits-requires : goal.check_limits-requires
+check_limits-requires c = c.requires (search rules)
+
+pub returns-in-Refused : goal.returns-in-Refused
+returns-in-Refused c = search (rules, after_refused)
+
+pub returns-in-Accepted : goal.returns-in-Accepted
+returns-in-Accepted c = search (rules, after_accepted)

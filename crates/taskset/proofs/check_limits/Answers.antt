@@ -1,0 +1,13 @@
+-- The answer goes by the outcome of the tests.
+use Rattle.taskset.proofs.ReadingLaws.{limits_say, by_refused, by_accepted}
+use borrow.Author.Rules.{rules}
+use Rattle.taskset.proofs.check_limits.Goals as goal
+
+pub accepted-requires : goal.accepted-requires
+accepted-requires c = search (rules, limits_say)
+
+pub returns-in-Refused : goal.returns-in-Refused
+returns-in-Refused c = search (rules, by_refused)
+
+pub returns-in-Accepted : goal.returns-in-Accepted
+returns-in-Accepted c = search (rules, by_accepted)
