@@ -10,4 +10,4 @@ check_after-requires c = search (rules, sizes_say)
 pub returns : goal.returns
 returns c =
     let said = bare_read _ c.size_tests-sizes.ensures c.check_after.ensures in
-    record { answer = said.0; decides = said.1; reads = said.2 }
+    record { answer = said.0; decides = said.1.0; reads = said.1.1 }
