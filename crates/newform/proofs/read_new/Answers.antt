@@ -8,4 +8,4 @@ check_after-requires c = new_sized _ _ c.shape_tests-shape.ensures
 pub returns : goal.returns
 returns c =
     let said = new_read _ c.check_after.ensures c.shape_tests-shape.ensures c.decode-f.ensures in
-    record { answer = said.0; decides = said.1; reads = said.2; stored = said.3 }
+    record { answer = said.0; decides = said.1.0; reads = said.1.1.0; stored = said.1.1.1 }

@@ -9,4 +9,4 @@ returns c =
     let f = fields-alone c.args.table.now c.repeated-every.ensures c.every_core.ensures
     (c.size-n.ensures.0 ∙ c.byte.ensures) (c.size-m.ensures.0 ∙ c.byte-2.ensures) in
     let said = alone_read _ c.read_with.ensures f in
-    record { answer = said.0; decides = said.1; reads = said.2; stored = said.3 }
+    record { answer = said.0; decides = said.1.0; reads = said.1.1.0; stored = said.1.1.1 }
