@@ -130,12 +130,12 @@ module _ {J : Job} {L : Locals} (s : Walking J L) where
       }
 
       -- it is not permitted, has no room for the task, or is empty and so is a lower twin
-      pub core_passed : not r ≡ true → Looked J L (L.next + 1) false
-      core_passed e = core_looked (not-true r e)
+      pub core_passed : r ≡ false → Looked J L (L.next + 1) false
+      core_passed e = core_looked e
 
       -- it is entered
-      pub core_taken : not r ≡ false → Looked J L (L.next + 1) true
-      core_taken e = core_looked (not-false r e)
+      pub core_taken : r ≡ true → Looked J L (L.next + 1) true
+      core_taken e = core_looked e
 
   none_tried : tried (problem J) node 0 ≡ true
   unfolding tried some_empty_twin
