@@ -1,0 +1,16 @@
+-- A search for the first task with another core byte.
+use Rattle.numbers.proofs.FirstLaws.{seek_start, seek_none, looked_on, looked_found}
+use borrow.Author.Rules.{rules}
+use Rattle.transfer.proofs.first_other_byte.Goals as goal
+
+pub loop-k-init : goal.loop-k-init
+loop-k-init c = search (rules, seek_start)
+
+pub returns-then-is_other_byte : goal.returns-then-is_other_byte
+returns-then-is_other_byte c = search (rules, looked_found)
+
+pub loop-k-preserved : goal.loop-k-preserved
+loop-k-preserved c = search (rules, looked_on)
+
+pub returns : goal.returns
+returns c = search (rules, seek_none)
