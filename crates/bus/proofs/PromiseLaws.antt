@@ -120,6 +120,7 @@ module _ (s : List ℕ) where
   not_early k h n m (inr (inr (inr (inr (inl e))))) = (not_outside 1 5 k).1 (omega arith, omega arith) h
   not_early k h n m (inr (inr (inr (inr (inr (inl e)))))) = n e
   not_early k h n m (inr (inr (inr (inr (inr (inr (inl e))))))) = (not_outside 1 5 k).1 (omega arith, omega arith) h
+  not_early k h n m (inr (inr (inr (inr (inr (inr (inr x7))))))) = elim x7 [ ]
 
   -- what the general reader tests behind them
   abbrev behind : List Condition
