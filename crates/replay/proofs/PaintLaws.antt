@@ -9,7 +9,7 @@ use lib.Dec.{eqb, leb}
 use lib.ListN.{length, get_or, take, drop, set, replicate, length-append, length-drop, length-replicate, drop_of_length-le, replicate-append-replicate, take-append-drop}
 use lib.Seq.{take_all, take_at, drop-cons, set_at, length-take-le}
 use Rattle.numbers.proofs.BoolLaws.{and_right}
-use Rattle.refusal.specs.Tests.{◌then◌, refuse_if, by_outcome}
+use Rattle.refusal.specs.Tests.{refuse_if, by_outcome}
 use Rattle.refusal.specs.declared.Cause.{Cause}
 use Rattle.refusal.specs.declared.Cause.TheVariants.{Record}
 use Rattle.refusal.specs.declared.Outcome.TheVariants.{Accepted, Refused}
