@@ -1,0 +1,13 @@
+-- The loop has filled in the first k records.
+use Prim.Native.Nat.{◌-◌, ◌≤◌}
+use mathlib.Core.Path.{◌≡◌}
+use lib.ListN.{length, take}
+use Rattle.replay.specs.Tests.{painted_all}
+use Rattle.logwords.specs.Words.{records_in}
+use Rattle.logwords.proofs.paint_words.Given as goal
+
+abbrev pub invariant-loop-k : goal.invariant-loop-k
+invariant-loop-k l = (l.k ≤ l.n) × ((l.n ≤ length (records_in l.words)) × (l.row ≡ painted_all (take l.k (records_in l.words)) l.initial.row))
+
+abbrev pub decreases-loop-k : goal.decreases-loop-k
+decreases-loop-k l = l.n - l.k
