@@ -1,4 +1,4 @@
-// What the benchmarks call from C.
+// What the benchmarks call from C, by the exports of `bench_entry_c`.
 #![tactic(auto)]
 
 ghost use Rattle.std.specs.Prelude.{◌≡◌, ◌<◌};
@@ -9,8 +9,7 @@ ghost use Rattle.bench_entry.specs.Ticks.{plus as plus_of, sum_of_tasks, bench_s
 use runner::Core;
 
 // Plans a table on a board with this charge, with these core bytes, and returns the number of steps.
-#[unsafe(no_mangle)]
-pub extern "C" fn bench_search(table: &[u8], charge: u32, cores: &[u8], limit: u32) -> u32
+pub fn bench_search(table: &[u8], charge: u32, cores: &[u8], limit: u32) -> u32
     ensures { result ≡ (plan_of (beside table.now charge cores.now) limit).steps }
 {
     planner::plan(table, charge, cores, limit).steps
@@ -45,8 +44,7 @@ fn sum_of_tasks(core: Core, ticks: u32) -> u64
 
 // Runs a table's tasks, which may use every core, all on core 1 of a board with this charge, with full requests, and returns the sum of the
 // tasks run and of the late tasks.
-#[unsafe(no_mangle)]
-pub extern "C" fn bench_tick(table: &[u8], charge: u32, ticks: u32) -> u64
+pub fn bench_tick(table: &[u8], charge: u32, ticks: u32) -> u64
     ensures { result ≡ bench_sum table.now charge ticks }
 {
     let n = wire::size(wire::byte(table, 0));

@@ -1,4 +1,4 @@
-// The two entries by which C writes and expands a run log.
+// The two calls by which C writes and expands a run log: their work and their contracts, which the exports of `logentry_c` repeat.
 #![tactic(auto)]
 
 ghost use Rattle.std.specs.Prelude.{◌≡◌, ◌≤◌, length};
@@ -44,8 +44,7 @@ fn in_numbers(answer: Logged) -> Reply
 }
 
 // Writes the log of the answers to the front of `runs`.
-#[unsafe(no_mangle)]
-pub extern "C" fn millplan_log_write(answers: &[u8], runs: &mut [Run]) -> Reply
+pub fn millplan_log_write(answers: &[u8], runs: &mut [Run]) -> Reply
     ensures reply { result ≡ reply_of (write_answer answers.now (length runs.old)) }
     ensures runs { runs.new ≡ log_after answers.now runs.old }
     ensures decides { Replies (Writable answers.now (length runs.old)) (write_conditions answers.now (length runs.old)) result }
@@ -56,8 +55,7 @@ pub extern "C" fn millplan_log_write(answers: &[u8], runs: &mut [Run]) -> Reply
 }
 
 // Fills `answers` from the records.
-#[unsafe(no_mangle)]
-pub extern "C" fn millplan_log_expand(runs: &[Run], answers: &mut [u8]) -> Reply
+pub fn millplan_log_expand(runs: &[Run], answers: &mut [u8]) -> Reply
     ensures reply { result ≡ reply_of (expand_answer runs.now (length answers.old)) }
     ensures answers { answers.new ≡ row_after runs.now answers.old }
     ensures decides { Replies (Expandable runs.now (length answers.old)) (expand_conditions runs.now (length answers.old)) result }
