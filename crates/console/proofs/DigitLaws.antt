@@ -3,11 +3,12 @@ use Prim.Native.Nat.{ℕ, zero, suc, ◌+◌, ◌*◌, ◌-◌, ◌/◌, ◌%◌
 use mathlib.Core.Path.{◌≡◌, ap}
 use mathlib.Core.List.{[], ◌∷◌, ◌++◌}
 use native.Mathlib.Omega.{arith}
-use native.Mathlib.Nat.{pow-succ', one-le-pow}
+use native.Mathlib.Nat.{pow-succ', one-le-pow, mod-eq_of_lt}
 use borrow.Author.Tests.{lt-ltb}
-use Rattle.io.specs.Digits.{hex_digit_ascii}
+use Rattle.std.proofs.lemmas.Fmt.{decimal_by_steps}
+use Rattle.decimal.specs.Decimal.{decimal}
 use Rattle.decimal.proofs.DecimalLaws.{decimal-one, decimal-more}
-use Rattle.console.specs.Digits.{KitDigits}
+use Rattle.console.specs.Digits.{hex_digit_ascii, KitDigits, PrintedDigits}
 
 glyph_digit : (n : ℕ) → hex_digit_ascii (n % 10) ≡ 48 + n % 10
 glyph_digit n = rw (lt-ltb (n % 10) 10 (omega arith))
@@ -25,3 +26,9 @@ kit_digits n (suc (suc k)) f =
     (ap (λ l. l ++ ((48 + n % 10) ∷ []))
     (kit_digits (n / 10) (suc k)
     (omega arith, omega arith, λ h. let d : suc k - 1 ≡ k = omega arith in rw d (omega arith))))
+
+pub printed_digits : PrintedDigits
+printed_digits x small = decimal_by_steps (λ n ds. ds ≡ decimal n)
+    (λ n h. let e : n % 10 ≡ n = mod-eq_of_lt h in rw (decimal-one n h, e))
+    (λ n ds h e. rw (decimal-more n h, e))
+    x small

@@ -1,3 +1,3 @@
-pub mod CountLaws
 pub mod DigitLaws
+pub mod ReadLaws
 pub mod WriteLaws

@@ -1,13 +1,11 @@
 -- How many bytes a text shows, and what the output took of them.
 use Prim.Native.Nat.{ℕ, ◌≤◌, ◌<◌}
-use mathlib.Core.Path.{◌≡◌, ap}
-use mathlib.Core.List.{List}
-use lib.Dec.{eqb}
+use mathlib.Core.Path.{◌≡◌, sym}
 use lib.ListN.{length, take, length-take}
 use native.Mathlib.Omega.{arith}
+use Rattle.std.proofs.lemmas.List.{take-take}
 use Rattle.text.specs.Shown.{shown}
 use Rattle.text.specs.declared.Text.{Text}
-use Rattle.console.specs.Written.{Took}
 
 -- a text shows as many as its length says
 pub short_shown : (t : Text) → length t.bytes ≡ 2560 → t.length < 2560 → t.length ≡ length (shown t)
@@ -24,10 +22,7 @@ pub shown_within : (t : Text) → length (shown t) ≤ length t.bytes
 unfolding shown
 shown_within t = simp length-take (omega arith)
 
--- what the output took of a front
-pub in_front : (l : List ℕ) {n r : ℕ} → r ≤ length (take n l) → r ≤ n
-in_front l {n = n} h = let e = length-take n l in omega (arith, h, e)
-
--- taken out of the n bytes that are shown
-pub took_of : {bytes : List ℕ} {taken n : ℕ} → n ≡ length bytes → taken ≤ n → Took bytes record { taken = taken; whole = eqb taken n }
-took_of {taken = taken} e h = record { most = omega arith; all = ap (eqb taken) e }
+-- a front of what is shown is a front of what the text has
+pub front_shown : (t : Text) (k : ℕ) → k ≤ length (shown t) → take k t.bytes ≡ take k (shown t)
+unfolding shown
+front_shown t k h = sym (take-take k t.length t.bytes (omega (arith, length-take t.length t.bytes, h)))
