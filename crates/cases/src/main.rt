@@ -78,7 +78,7 @@ fn run_plan(table: &[u8], charge: u32, cores: &[u8]) -> bool {
         return false;
     }
     let plan = planner::plan(table, charge, cores, limit.value);
-    console::show(caselines::plans::plan_line(plan)).whole
+    console::show(caselines::planlines::plan_line(plan)).whole
 }
 
 // The same for a table for bus drives.
@@ -88,7 +88,7 @@ fn run_bus_plan(table: &[u8]) -> bool {
         return false;
     }
     let plan = bus::plan_bus(table, limit.value);
-    console::show(caselines::plans::plan_line(plan)).whole
+    console::show(caselines::planlines::plan_line(plan)).whole
 }
 
 // Prints the quick plan's line; false where the output fails.
@@ -183,7 +183,7 @@ fn run_record() -> bool {
         charge: charge.value,
     };
     let numbers = requests.numbers;
-    console::show(caselines::records::record_line(core.tick(numbers))).whole
+    console::show(caselines::recordlines::record_line(core.tick(numbers))).whole
 }
 
 // Prints every byte of an output and ends the line; false where the output fails.
