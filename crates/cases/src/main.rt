@@ -16,6 +16,7 @@ use storing::Transfer;
 use text::Text;
 
 // Where the cases come from, where their lines go, and where it is said that the output failed.
+#[derive(Drop)]
 struct Streams {
     input: Stdin,
     output: Stdout,
