@@ -1,8 +1,9 @@
 // Prints the report of the table on standard input, in the new form, for bus drives.
 #![tactic(auto)]
 
-fn main() {
+fn main(rt: HostRuntime) {
     let mut buffer = [0u8; 149];
-    let length = console::read_next(&mut buffer, 149);
-    console::show(busreport::report(&buffer[..length]));
+    let length = console::read_next(&mut rt.stdin(), &mut buffer, 149);
+    let report = busreport::report(&buffer[..length]);
+    console::show(&mut rt.stdout(), &mut rt.stderr(), report);
 }

@@ -1,17 +1,11 @@
 -- Laws of the blocks.
-use Prim.Native.Nat.{ℕ, ◌+◌, ◌*◌, ◌≤◌}
+use Prim.Native.Nat.{ℕ, ◌+◌, ◌*◌}
 use mathlib.Core.Path.{◌≡◌}
 use mathlib.Core.List.{List}
-use lib.ListN.{drop}
-use native.Mathlib.Omega.{arith}
 use native.Mathlib.Nat.{zero-add}
 use Rattle.edf.specs.declared.Slot.{Slot}
 use Rattle.caseblocks.specs.Blocks.{slot_in}
 use Rattle.wire.specs.Bytes.{le32, word_at}
-
--- all bytes that were asked for were read
-pub block_kept : {r n : ℕ} (before after : List ℕ) → r ≤ n → n ≤ r → drop n after ≡ drop n before → drop r after ≡ drop r before
-block_kept {r} {n} before after h g p = let e : n ≡ r = omega arith in rw e at p
 
 -- a number of the block's front
 pub front_word : (s : List ℕ) (k : ℕ) {v : ℕ} → v ≡ le32 s (4 * k) → v ≡ word_at s 0 k

@@ -1,9 +1,13 @@
 -- What the blocks of a case say.
-use Rattle.std.specs.Prelude.{ℕ, ◌+◌, ◌*◌, List}
+use Rattle.std.specs.Prelude.{ℕ, ◌+◌, ◌*◌, ◌/◌, ◌%◌, List, ◌∷◌, take}
 use Rattle.edf.specs.declared.Slot.{Slot}
 use Rattle.fields.specs.declared.Fields.{Fields}
 use Rattle.wire.specs.Bytes.{le32}
 use Rattle.runs.specs.declared.Run.{Run}
+
+-- a block of n bytes, the first ones of some: the length in two bytes, lowest first, and the bytes
+abbrev pub block_of : ℕ → List ℕ → List ℕ
+block_of n bytes = n % 256 ∷ n / 256 ∷ take n bytes
 
 -- slot k of a record, from 0: period, budget, ticks until release, ticks owed
 unfoldable pub slot_in : List ℕ → ℕ → Slot

@@ -2,15 +2,17 @@
 #![tactic(auto)]
 
 ghost use Rattle.std.specs.Prelude.{◌≡◌, ◌<◌, true, false, drop};
-ghost use Rattle.io.specs.Counts.{IsPrefixLen};
+ghost use Rattle.std.specs.Io.KnownBytes.{Consumes};
+ghost use Rattle.console.specs.Counts.{IsPrefixLen};
 ghost use Rattle.numbers.specs.Rows.{row};
 ghost use Rattle.wire.specs.Bytes.{word_at};
 ghost use Rattle.edf.specs.Slots.{empty_slot};
-ghost use Rattle.caseblocks.specs.Blocks.{slot_in, run_in, fields_in};
+ghost use Rattle.caseblocks.specs.Blocks.{block_of, slot_in, run_in, fields_in};
 
 use edf::Slot;
 use fields::Fields;
 use runs::Run;
+use std::io::Read;
 
 // What was read of a block: whether it is whole, and how many bytes it has. It is not whole, and has none, where the input ended or
 // the block is longer than it may be.
@@ -21,20 +23,22 @@ pub struct Block {
 }
 
 // Reads a block into the front of a buffer, which is as long as the block may be. What stands behind the bytes of a whole block stays as it was.
-pub fn read_block(buffer: &mut [u8]) -> Block
+// A read that fails counts as the end of the input.
+pub fn read_block<R: Read>(input: &mut R, buffer: &mut [u8]) -> Block
     ensures none { result.whole ≡ false → result.length ≡ 0 }
     ensures counts { IsPrefixLen result.length buffer.new }
     ensures kept { result.whole ≡ true → drop result.length buffer.new ≡ drop result.length buffer.old }
+    ensures bytes { result.whole ≡ true → Consumes (R.remaining input.old) (R.remaining input.new) (block_of result.length buffer.new) }
 {
     let mut head = [0u8; 2];
-    if console::read_next(&mut head, 2) < 2 {
+    if console::read_next(input, &mut head, 2) < 2 {
         return Block {
             whole: false,
             length: 0,
         };
     }
     let length = wire::size(head[0]) + 256 * wire::size(head[1]);
-    let got = console::read_next(buffer, length);
+    let got = console::read_next(input, buffer, length);
     if got < length {
         return Block {
             whole: false,

@@ -2,8 +2,9 @@
 // longest list have 148 and 129 bytes: an input of one byte more is refused, whatever follows.
 #![tactic(auto)]
 
-fn main() {
+fn main(rt: HostRuntime) {
     let mut buffer = [0u8; 278];
-    let length = console::read_next(&mut buffer, 278);
-    console::show(feedsreport::report(&buffer[..length]));
+    let length = console::read_next(&mut rt.stdin(), &mut buffer, 278);
+    let report = feedsreport::report(&buffer[..length]);
+    console::show(&mut rt.stdout(), &mut rt.stderr(), report);
 }
