@@ -40,7 +40,7 @@ def plan_within(stored, limit):
 def made_by(limit):
     if limit is None:
         return f"This is the plan of ./run, whose step limit is {USUAL_LIMIT:,}."
-    return (f"This plan was made by target/bin/cases with a step limit of {limit:,}; "
+    return (f"This plan was made by crates/cases/out/cases with a step limit of {limit:,}; "
             f"that of ./run is always {USUAL_LIMIT:,}.")
 
 

@@ -1,5 +1,6 @@
 """Holds the documents to what they show: every C program is one that is compiled, every block of
-Rattle stands in a crate's code, and every command that is shown with its output prints that.
+Rattle stands in a crate's code, every command that is shown with its output prints that, and README
+names the toolchain that toolchain.txt pins.
 
 usage: python3 tests/documents.py
 """
@@ -39,6 +40,8 @@ def main():
             elif not info:
                 counts[2] += commands(name, block)
     must(shown == snippets, "documents", "".join(snippets - shown), "is shown")
+    pinned = content(join(ROOT, "toolchain.txt")).strip()
+    must(f"`{pinned}`" in content(join(ROOT, "README.md")), "README.md", pinned, "is named")
     must(all(counts), "documents", "no C program, block of Rattle or command", "are found")
     print(f"{counts[0]} C programs, {counts[1]} blocks of Rattle, {counts[2]} commands")
 

@@ -33,7 +33,7 @@ def planned():
     explain = ["./explain", "--steps"]
     yield Case([*explain, "0", "examples/tight.table"], SPENT, holds("cases", "no task has a core"))
     yield Case([*explain, "25000000", "examples/spent.table"], SHORT,
-               holds("short 10100 20539303", "target/bin/cases", "25,000,000"))
+               holds("short 10100 20539303", "crates/cases/out/cases", "25,000,000"))
     yield Case([*explain, "99", "examples/refused.table"], REFUSED, holds("refused 7 2"), NUMBER_7)
 
 

@@ -5,14 +5,15 @@ version, and builds or does not."""
 import os
 import shutil
 import sys
-from os.path import isdir, join
+from os.path import dirname, isdir, join
 
 from case import ROOT, SHORT, TROUBLE, Case, check, content, made, surroundings
 
 PARTS = ("run", "move", "maketable", "explain", "feeds", "scripts", "toolchain.txt", "crates.txt",
-         "crates/numbers", "crates/millplan")
+         "crates/numbers", "crates/millplan", "crates/busplan", "crates/feeds")
 TOOLS = ("bash", "env", "dirname", "realpath", "head", "find", "tee", "sed", "mkdir", "touch", "mv",
          "tail", "cp")
+PROGRAM = "crates/feeds/out/feeds"
 TABLE = join(ROOT, "examples", "watch.table")
 PLAN = content("examples/watch.plan")
 OTHER = "toolchain.txt names"
@@ -28,10 +29,10 @@ def cases(_, folder):
            for command in (["./run"], ["./run", "--bus"], ["./explain"], ["./move", "tonew"],
                            ["./feeds"])])
     check([Case(["./run", "missing"], TROUBLE, b"", ["missing: No such file"], **where)])
-    stand_in(tools, "another", "echo 'a proof fails'; exit 1")
+    stand_in(tools, "another", "echo 'a proof fails' >&2; exit 1")
     check([Case([script, TABLE], TROUBLE, b"", [OTHER, "another", "a proof fails"], 3, **where)
            for script in ("./run", "./feeds")])
-    stand_in(tools, "another", f"mkdir -p target/bin; cp '{ROOT}'/target/bin/$2 target/bin")
+    stand_in(tools, "another", f"name=${{PWD##*/}}; cp '{ROOT}'/crates/$name/out/$name out")
     for command, name in PLANNERS:
         building = f"proving and building {name} "
         check([Case([*command, TABLE], SHORT, PLAN, [OTHER, building], 2, **where)])
@@ -40,8 +41,9 @@ def cases(_, folder):
     check([Case([*command, TABLE], SHORT, PLAN, **where) for command, _ in PLANNERS])
     # A program that says nothing, or fails.
     for other, said in (("true", "feeds did not answer"), ("false", "feeds ended with 1")):
-        shutil.copy(shutil.which(other), join(copy, "target", "bin", "feeds"))
-        made(copy, "target/feeds.checked", b"")
+        os.makedirs(join(copy, dirname(PROGRAM)), exist_ok=True)
+        shutil.copyfile(shutil.which(other), join(copy, PROGRAM))
+        os.chmod(join(copy, PROGRAM), 0o755)
         check([Case(["./feeds", TABLE], TROUBLE, b"", [said], **where)])
     # What is built needs none.
     os.unlink(join(tools, "rt"))
@@ -54,8 +56,11 @@ def cases(_, folder):
 def copied(copy):
     os.makedirs(join(copy, "crates"))
     for part in PARTS:
-        copy_one = shutil.copytree if isdir(join(ROOT, part)) else shutil.copy
-        copy_one(join(ROOT, part), join(copy, part))
+        source, to = join(ROOT, part), join(copy, part)
+        if isdir(source):
+            shutil.copytree(source, to, ignore=shutil.ignore_patterns("out"))
+        else:
+            shutil.copy(source, to)
 
 
 def linked(tools):
