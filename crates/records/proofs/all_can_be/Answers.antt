@@ -1,5 +1,6 @@
 -- The loop asks whether the test holds of no slot.
 use Prim.Native.Nat.{◌-◌}
+use mathlib.Core.Path.{refl}
 use Rattle.numbers.proofs.FirstLaws.{clear_start, clear_next, clear_done}
 use Rattle.edf.specs.Slots.{first_slot, cannot_be}
 use Rattle.slots.proofs.ReadLaws.{tested}
