@@ -21,7 +21,7 @@ fields_part : {bytes : List ℕ} {items : List Item} (xs : List ℕ) → Part by
 unfolding joined
 fields_part {bytes} {items} [] p = rw (append-nil bytes, append-nil items) p
 fields_part {bytes} {items} (x ∷ xs) p =
-    rw (append_assoc bytes (field x) (fields xs), append_assoc items (number x ∷ []) (map number xs)) at (fields_part xs (field_part x p))
+    rw (append_assoc bytes (field x) (fields xs), append_assoc items (number x ∷ []) (map number xs)) at (fields_part {bytes = bytes ++ field x} {items = items ++ (number x ∷ [])} xs (field_part x p))
 
 -- the first entry, and those behind it
 first_and_rest : (n : ℕ) (xs : List ℕ) → 1 ≤ n → n ≤ length xs → entry xs 0 ∷ take (n - 1) (drop 1 xs) ≡ take n xs

@@ -8,16 +8,16 @@ use Rattle.quickreport.proofs.OutputLaws.{never_refused, output_all}
 use borrow.Author.Rules.{rules}
 use Rattle.quickreport.proofs.report.Goals as goal
 
-pub read_new-reading-requires : goal.read_new-reading-requires
-read_new-reading-requires c = output_all (new_sound _) (search (rules, printed_refused))
+pub returns-in_default : goal.returns-in_default
+returns-in_default c =
+    let said = output_all (new_sound _) (search (rules, printed_refused)) in
+    record { answer = said.0; reported = said.1.0; read_back = said.1.1 }
 
-pub refusal_report-requires : goal.refusal_report-requires
-refusal_report-requires c = search (rules, reading_checked)
+pub quick_tasks-plan-requires : goal.quick_tasks-plan-requires
+quick_tasks-plan-requires c = search (rules, reading_checked)
 
 pub returns-in_default-answer : goal.returns-in_default-answer
-returns-in_default-answer c =
-    let said = absurd (search (rules, never_refused)) in
-    record { answer = said.0; reported = said.1.0; read_back = said.1.1 }
+returns-in_default-answer c = absurd (search (rules, never_refused))
 
 pub plan_report-requires : goal.plan_report-requires
 plan_report-requires c = search (rules, reading_few)
