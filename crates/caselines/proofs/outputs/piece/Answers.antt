@@ -1,0 +1,10 @@
+-- The numbers of a piece fit a text.
+use Rattle.caselines.proofs.PieceLaws.{piece-there, piece_whole}
+use borrow.Author.Rules.{rules}
+use Rattle.caselines.proofs.outputs.piece.Goals as goal
+
+pub slice_bounds-append_numbers-end : goal.slice_bounds-append_numbers-end
+slice_bounds-append_numbers-end c = search (rules, piece-there)
+
+pub returns : goal.returns
+returns c = search (rules, piece_whole)
