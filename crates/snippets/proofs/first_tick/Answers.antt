@@ -9,7 +9,7 @@ pub slice_bounds-placement-end : goal.slice_bounds-placement-end
 slice_bounds-placement-end c = rw (c.plan-plan.ensures.answer, plan_long _ _) c.requires
 
 pub slice_bounds-fresh-end : goal.slice_bounds-fresh-end
-slice_bounds-fresh-end c = sym (length-take-le _ _ (array-share-prefix-placement c))
+slice_bounds-fresh-end c = sym (length-take-le _ _ (rw (c.plan-plan.ensures.answer, plan_long _ _) c.requires))
 
 pub returns : goal.returns
 returns c = search (rules, first-ticked)
