@@ -3,16 +3,16 @@ use Prim.Native.Nat.{ℕ, zero, suc, ◌+◌, ◌*◌, ◌≤◌, ◌<◌, zero-
 use native.Mathlib.Nat.{le_refl}
 use native.Mathlib.Omega.{arith}
 use mathlib.Core.Path.{◌≡◌, refl, sym, ap, ◌∙◌}
-use mathlib.Core.Bool.{cond, ◌&&◌}
+use mathlib.Core.Bool.{cond}
 use mathlib.Core.List.{List, [], ◌∷◌, ◌++◌}
 use mathlib.Core.Logic.{◌≢◌}
-use lib.Dec.{eqb, ltb, leb-suc-suc}
+use lib.Dec.{eqb}
 use lib.ListN.{length, get_or, take, drop, replicate}
 use lib.Seq.{take-nil}
-use borrow.Author.Tests.{eq-eqb, ne_eqb, lt-ltb, le-ltb}
+use borrow.Author.Tests.{eq-eqb, ne_eqb, lt-ltb}
 use Rattle.numbers.specs.Sums.{sum_over, sum_to}
 use Rattle.numbers.specs.Loads.{demand_on, sum}
-use Rattle.numbers.proofs.BoolLaws.{cond_both, cond_le}
+use Rattle.numbers.proofs.BoolLaws.{cond_le}
 use Rattle.numbers.proofs.SumLaws.{sum_to_bound, sum_to_add, sum_to-front, sum_to-only}
 
 -- further choices add the demand of their own tasks

@@ -9,7 +9,7 @@ use lib.Dec.{eqb}
 use lib.ListN.{length, get_or, drop, length-append, length-replicate}
 use lib.Seq.{drop-cons, drop-drop}
 use Rattle.runs.specs.declared.Run.{Run}
-use Rattle.runs.specs.Runs.{run, joined, runs_from, runs, expand, total, lead}
+use Rattle.runs.specs.Runs.{run, joined, runs_from, expand, total, lead}
 
 -- what an answer in front does, by whether the first run is of its task
 pub joined_same : (b at : ℕ) (r : Run) (rs : List Run) → b ≡ r.task → joined b at (r ∷ rs) ≡ run b at (suc r.length) ∷ rs

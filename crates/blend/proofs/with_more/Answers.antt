@@ -1,5 +1,5 @@
 -- The loop's invariant: the loads, as far as the pass has come.
-use Prim.Native.Nat.{◌+◌, ◌-◌}
+use Prim.Native.Nat.{◌+◌}
 use native.Mathlib.Nat.{add-zero}
 use borrow.Author.Rules.{rules}
 use Rattle.blend.proofs.OneCore.{cores_start, cores_next, cores_done, cores_more}

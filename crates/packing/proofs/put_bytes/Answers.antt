@@ -1,5 +1,4 @@
 -- After k turns the first k bytes are there.
-use Prim.Native.Nat.{◌-◌}
 use mathlib.Core.Path.{refl}
 use native.Mathlib.Omega.{arith}
 use Rattle.wire.proofs.LentLaws.{put_start, bytes_next}

@@ -1,5 +1,4 @@
 -- After k turns the first k numbers stand one after another.
-use Prim.Native.Nat.{◌-◌}
 use mathlib.Core.Path.{refl}
 use Rattle.wire.proofs.LentLaws.{put_start, words_next}
 use borrow.Author.Rules.{rules}

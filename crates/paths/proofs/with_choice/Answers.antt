@@ -1,5 +1,4 @@
 -- The loop's invariant: the row, as far as the pass has come.
-use Prim.Native.Nat.{◌-◌}
 use borrow.Author.Rules.{rules}
 use Rattle.blend.proofs.OneEntry.{change_start, change_pick, change_done}
 use Rattle.paths.proofs.with_choice.Goals as goal

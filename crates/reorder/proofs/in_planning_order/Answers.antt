@@ -1,5 +1,4 @@
 -- One task's value after another is written at the end.
-use Prim.Native.Nat.{◌-◌}
 use native.Mathlib.Omega.{arith}
 use Rattle.reorder.proofs.ListedLaws.{gather_start, gather_next, gather_done, listed_below}
 use Rattle.reorder.proofs.in_planning_order.Goals as goal

@@ -1,5 +1,4 @@
 -- One task's choice after another is written at its place in the table.
-use Prim.Native.Nat.{◌-◌}
 use Rattle.reorder.proofs.ListedLaws.{scatter_start, scatter_next, scatter_done}
 use Rattle.reorder.proofs.in_table_order.Goals as goal
 

@@ -1,6 +1,5 @@
 -- A row of bytes, filled from the front.
 use native.Mathlib.Omega.{arith}
-use Prim.Native.Nat.{◌-◌}
 use Rattle.wire.specs.Bytes.{byte_at}
 use Rattle.numbers.proofs.RowLaws.{fill_start, fill_with, fill_most}
 use borrow.Author.Rules.{rules}

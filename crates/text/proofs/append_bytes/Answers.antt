@@ -1,5 +1,4 @@
 -- After i turns the first i bytes are there.
-use Prim.Native.Nat.{◌-◌}
 use borrow.Author.Rules.{rules}
 use Rattle.text.proofs.ClipLaws.{spell_start, spell_next, spell_done}
 use Rattle.text.proofs.append_bytes.Goals as goal
