@@ -1,5 +1,4 @@
 -- After k turns the first k numbers are there.
-use Prim.Native.Nat.{◌-◌}
 use mathlib.Core.Path.{refl}
 use native.Mathlib.Omega.{arith}
 use Rattle.decimal.proofs.JoinLaws.{join_start, join_next, join_done}
