@@ -33,12 +33,11 @@ overflow_add-result c = search rules
 
 pub returns-then-placed-k : goal.returns-then-placed-k
 unfolding next_task
-returns-then-placed-k c =
-    (
-      looked_found c.loop-k.invariant c.loop-k-test.true
-          (ready-here _ _ c.args.placed.now _ refl c.waits.ensures) c.if-placed-k.true,
-      search rules,
-    )
+returns-then-placed-k c = (
+  looked_found c.loop-k.invariant c.loop-k-test.true
+      (ready-here _ _ c.args.placed.now _ refl c.waits.ensures) c.if-placed-k.true,
+  search rules,
+)
 
 pub overflow_add-k-in-loop-k-2 : goal.overflow_add-k-in-loop-k-2
 unfolding next_task

@@ -145,12 +145,12 @@ returns-then-depth-eq0 c =
     let l = c.choices in
     let e = c.requires.excess_is in
     let w : Walking (job a.demands a.affinity a.n a.m a.h a.limit)
-        (locals l.path l.loads l.out l.best l.rejected l.bound l.steps l.depth (a.m + 1)) =
-        elim c.then-m-next.branch [
-          | then-m-next-via-then-m-next w ↦ past l.invariant.0 (omega (arith, l.invariant.0.next_within, w.if-m-next.true))
-          | then-m-next-via-else-m-next+then-bound-out w ↦
-              past (skips (none_looked l.invariant.0 c.if-next-m.false w.if-m-next.false e l.invariant.4 (le-leb _ _ w.if-bound-out.true))) (omega (arith, c.if-next-m.false, w.if-m-next.false))
-        ]
+    (locals l.path l.loads l.out l.best l.rejected l.bound l.steps l.depth (a.m + 1)) =
+    elim c.then-m-next.branch [
+      | then-m-next-via-then-m-next w ↦ past l.invariant.0 (omega (arith, l.invariant.0.next_within, w.if-m-next.true))
+      | then-m-next-via-else-m-next+then-bound-out w ↦
+          past (skips (none_looked l.invariant.0 c.if-next-m.false w.if-m-next.false e l.invariant.4 (le-leb _ _ w.if-bound-out.true))) (omega (arith, c.if-next-m.false, w.if-m-next.false))
+    ]
     in
     rw l.invariant.3 (walk_done w (omega arith) c.if-depth-eq0.true)
 
@@ -161,13 +161,13 @@ returns-then-steps-limit c =
     let e = c.requires.excess_is in
     let t = c.requires.twins_are in
     let v : Looked (job a.demands a.affinity a.n a.m a.h a.limit)
-        (locals l.path l.loads l.out l.best l.rejected l.bound l.steps l.depth l.next) c.if-next-m.c true =
-        elim c.if-next-m.branch [
-          | then-next-m+else-not-is_tried w ↦
-              rw w.c-is (core_taken l.invariant.0 w.if-next-m.true t e l.invariant.4 w.is_tried.ensures w.if-not-is_tried.false)
-          | else-next-m+else-m-next+else-bound-out w ↦
-              rw w.c-is (none_looked l.invariant.0 w.if-next-m.false w.if-m-next.false e l.invariant.4 (lt-leb _ _ w.if-bound-out.false))
-        ]
+    (locals l.path l.loads l.out l.best l.rejected l.bound l.steps l.depth l.next) c.if-next-m.c true =
+    elim c.if-next-m.branch [
+      | then-next-m+else-not-is_tried w ↦
+          rw w.c-is (core_taken l.invariant.0 w.if-next-m.true t e l.invariant.4 w.is_tried.ensures w.if-not-is_tried.false)
+      | else-next-m+else-m-next+else-bound-out w ↦
+          rw w.c-is (none_looked l.invariant.0 w.if-next-m.false w.if-m-next.false e l.invariant.4 (lt-leb _ _ w.if-bound-out.false))
+    ]
     in
     stops v c.if-steps-limit.true
 
@@ -179,7 +179,7 @@ returns-then-bound-excess c =
     let r = l.out + c.pick.result in
     let v = entering c.before.before.before.before.before in
     let w : Walking (job a.demands a.affinity a.n a.m a.h a.limit) (locals p l.loads l.out p r r (l.steps + 1) l.depth (a.m + 1)) =
-        stores v c.if-steps-limit.false (omega (arith, c.if-depth-deepest.false))
-        (rw (depth_byte v.state) at c.with_choice-path.ensures) c.pick.ensures
+    stores v c.if-steps-limit.false (omega (arith, c.if-depth-deepest.false))
+    (rw (depth_byte v.state) at c.with_choice-path.ensures) c.pick.ensures
     in
     rw l.invariant.3 (walk_over w c.requires.excess_is c.if-bound-excess.true)
