@@ -15,8 +15,7 @@ pub fn in_planning_order(values: [u32; 16], order: [usize; 16], n: usize) -> [u3
     let mut k = 0;
     while k < n {
         let task = order[k];
-        let next = numbers::with_number(gathered, k, values[task]);
-        gathered = next;
+        gathered[k] = values[task];
         k += 1;
     }
     gathered

@@ -14,8 +14,7 @@ pub fn words(s: &[u8], at: usize, n: usize) -> [u32; 16]
     let mut entries = [0u32; 16];
     let mut k = 0;
     while k < count {
-        let next = numbers::with_number(entries, k, wire::word(s, at + 4 * k));
-        entries = next;
+        entries[k] = wire::word(s, at + 4 * k);
         k += 1;
     }
     entries

@@ -1,4 +1,5 @@
 -- A row of numbers, filled from the front.
+use mathlib.Core.Path.{refl}
 use native.Mathlib.Omega.{arith}
 use Rattle.wire.specs.Bytes.{word_at}
 use Rattle.numbers.proofs.RowLaws.{fill_start, fill_with, fill_most}
@@ -10,7 +11,7 @@ loop-k-init c = fill_start 0 _ _ (omega (arith, c.at_most_sixteen-count.ensures)
 
 pub loop-k-preserved : goal.loop-k-preserved
 unfolding word_at
-loop-k-preserved c = fill_with c.loop-k.invariant c.loop-k-test.true c.with_number-next.ensures c.word.ensures
+loop-k-preserved c = fill_with c.loop-k.invariant c.loop-k-test.true refl c.word.ensures
 
 pub returns : goal.returns
 returns c = search (rules, fill_most)
