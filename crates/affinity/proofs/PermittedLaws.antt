@@ -1,6 +1,6 @@
 -- Laws of core bytes: what is permitted, how much, and the lowest; which bytes are fit; the byte that permits every core.
-use Prim.Native.Nat.{ℕ, zero, suc, pred, ◌+◌, ◌-◌, ◌*◌, ◌/◌, ◌^◌, ◌≤◌, ◌<◌, min}
-use native.Mathlib.Nat.{lt_of_lt_of_le, lt-div-mul-add, div-eq_of_lt}
+use Prim.Native.Nat.{ℕ, zero, suc, pred, ◌+◌, ◌-◌, ◌*◌, ◌/◌, ◌%◌, ◌^◌, ◌≤◌, ◌<◌, min}
+use native.Mathlib.Nat.{lt_of_lt_of_le, lt-div-mul-add, div-eq_of_lt, mod-eq_of_lt}
 use native.Mathlib.Numerals.{add-one}
 use native.Mathlib.Omega.{arith}
 use mathlib.Core.Path.{◌≡◌, refl, sym, ap, ◌∙◌}
@@ -184,18 +184,12 @@ full-count byte m h = sum_to_cong _ (λ k. 1) m (λ k l. rw (h (suc k) (omega ar
 
 -- ---- every core
 
--- the byte that permits every core is 1, 3, 7 or 15
-pub every_shift : (m : ℕ) → m < 4 → 15 / 2 ^ (4 - m) ≡ every_core m
+-- the byte that permits every core, as the code makes it: its shift stays in the byte
+pub every_is : (m : ℕ) {k : ℕ} → k ≡ min m 4 → 1 * 2 ^ k % 256 - 1 ≡ every_core m
 unfolding every_core
-every_shift zero h = refl
-every_shift (suc zero) h = refl
-every_shift (suc (suc zero)) h = refl
-every_shift (suc (suc (suc zero))) h = refl
-every_shift (suc (suc (suc (suc m)))) h = absurd (omega arith)
-
-pub every_four : (m : ℕ) → 4 ≤ m → 15 ≡ every_core m
-unfolding every_core
-every_four m h = let e : 4 ≡ min m 4 = omega arith in ap (λ (x : ℕ). 2 ^ x - 1) e
+every_is m {k} e =
+    let small : 1 * 2 ^ k < 256 = omega (arith, pow_mono {i = k} {j = 4} (omega arith)) in
+    rw (mod-eq_of_lt small, e) (omega arith)
 
 pub every_fits : (m : ℕ) → 1 ≤ m → m ≤ 4 → unfit (every_core m) m ≡ false
 unfolding every_core unfit

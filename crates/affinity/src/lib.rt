@@ -9,7 +9,7 @@ pub fn permits(byte: u8, below: u32) -> bool
     requires { below < 8 }
     ensures { result ≡ permitted byte (below + 1) }
 {
-    (byte as u32 >> below) % 2 == 1
+    (u32::from(byte) >> below) % 2 == 1
 }
 
 // Whether a byte permits a choice: 0, for left out, always.
@@ -22,14 +22,14 @@ pub fn allows(byte: u8, choice: u8) -> bool
     if 8 < choice {
         return false;
     }
-    permits(byte, choice as u32 - 1)
+    permits(byte, u32::from(choice) - 1)
 }
 
 // How many cores a byte permits: the count of its ones.
 pub fn count(byte: u8) -> u32
     ensures { result ≡ permitted_count byte 8 }
 {
-    u8::count_ones(byte)
+    byte.count_ones()
 }
 
 // The lowest core that a byte permits: its trailing zeros, plus 1; 0 if it permits none.
@@ -39,7 +39,7 @@ pub fn lowest(byte: u8) -> u32
     if byte == 0 {
         return 0;
     }
-    u8::trailing_zeros(byte) + 1
+    byte.trailing_zeros() + 1
 }
 
 // Whether a byte is 0 or has a bit above core `m`.
@@ -47,12 +47,12 @@ pub fn is_unfit(byte: u8, m: usize) -> bool
     requires { m ≤ 4 }
     ensures { result ≡ unfit byte m }
 {
-    (byte == 0) | (0 < byte as usize >> m)
+    (byte == 0) | (0 < usize::from(byte) >> m)
 }
 
 // The byte that permits each of `m` cores, of which there are four at most.
 pub fn every_core(m: usize) -> u8
     ensures { result ≡ every_core m }
 {
-    if m < 4 { 15 >> (4 - m) } else { 15 }
+    (1 << m.min(4)) - 1
 }

@@ -30,14 +30,11 @@ fn sum_of_tasks(core: Core, ticks: u32) -> u64
     let requests = [4294967295u32; 16];
     let mut now = core;
     let mut sum: u64 = 0;
-    let mut left = ticks;
-    while 0 < left {
+    for _ in 0..ticks {
         let ticked = now.tick(requests);
         sum = plus(sum, ticked.run);
         sum = plus(sum, ticked.late);
-        let next = ticked.core;
-        now = next;
-        left -= 1;
+        now = ticked.core;
     }
     sum
 }

@@ -1,4 +1,5 @@
 -- The tests of a table for bus drives are those of its limits and refusals.
+use Rattle.std.specs.Prelude.{Ok, Err}
 use Prim.Native.Nat.{ℕ, ◌≤◌}
 use mathlib.Core.Path.{◌≡◌, refl, sym, ◌∙◌, ap}
 use mathlib.Core.List.{List, [], ◌∷◌, ◌++◌}
@@ -6,8 +7,7 @@ use lib.ListN.{length, get_or}
 use native.Mathlib.Omega.{arith}
 use Rattle.refusal.specs.Tests.{◌then◌, in_order}
 use Rattle.refusal.specs.Conditions.{Condition, None, Tested}
-use Rattle.refusal.specs.declared.Outcome.{Outcome}
-use Rattle.refusal.specs.declared.Outcome.TheVariants.{Accepted, Refused}
+use Rattle.refusal.specs.Outcome.{Outcome}
 use Rattle.refusal.specs.declared.Cause.{Cause}
 use Rattle.refusal.proofs.TestLaws.{then_then, then_again, each_accepts, in_order-append, then_first, then_refused, then_accepted}
 use Rattle.refusal.proofs.ConditionLaws.{◌and◌, ◌also◌, no_more, join, tested_as, unnamed, unnamed_all}
@@ -30,10 +30,10 @@ use Rattle.newform.proofs.NewLaws.{front-tested, new_sized, new_form, new_bounde
 use Rattle.bus.specs.Limits.{ValidBus, earlier, bus_conditions, front_tests, bus_tests, bus_outcome, bus}
 
 -- all general limits behind numbers 13, 5 and 22: where these accept, 13 and 5 do the second time
-charge_again : (f : Fields) → in_order (front_tests f) ≡ Accepted → charge_test f ≡ Accepted
+charge_again : (f : Fields) → in_order (front_tests f) ≡ Ok tt → charge_test f ≡ Ok tt
 charge_again f e = search (each_accepts (front_tests f) e)
 
-periods_again : (f : Fields) → in_order (front_tests f) ≡ Accepted → periods_test f ≡ Accepted
+periods_again : (f : Fields) → in_order (front_tests f) ≡ Ok tt → periods_test f ≡ Ok tt
 periods_again f e = search (each_accepts (front_tests f) e)
 
 pub all-behind : (shape : Outcome) (f : Fields) → (shape then in_order (front_tests f)) then in_order (limit_tests f) ≡ shape then in_order (bus_tests f)
@@ -77,14 +77,14 @@ bus_sound s = record { tested = bus-tested s; within = λ v. v.general.fields }
 -- ---- the steps of the reader
 
 -- the tests are joined in their order
-pub front_refused : {shape o : Outcome} {c : Cause} (f : Fields) → shape ≡ Refused c → o ≡ Refused c → o ≡ shape then in_order (front_tests f)
+pub front_refused : {shape o : Outcome} {c : Cause} (f : Fields) → shape ≡ Err c → o ≡ Err c → o ≡ shape then in_order (front_tests f)
 front_refused f e p = p ∙ sym (then_refused _ _ _ e)
 
-pub front_accepted : {shape o : Outcome} (f : Fields) → shape ≡ Accepted → o ≡ in_order (front_tests f) → o ≡ shape then in_order (front_tests f)
+pub front_accepted : {shape o : Outcome} (f : Fields) → shape ≡ Ok tt → o ≡ in_order (front_tests f) → o ≡ shape then in_order (front_tests f)
 front_accepted f e p = p ∙ sym (then_first _ _ e)
 
 -- where they accept, the sizes are right
-pub front_sized : (s : List ℕ) (f : Fields) {o shape : Outcome} → o ≡ shape then in_order (front_tests f) → shape ≡ new_shape s f → o ≡ Accepted → Sized f
+pub front_sized : (s : List ℕ) (f : Fields) {o shape : Outcome} → o ≡ shape then in_order (front_tests f) → shape ≡ new_shape s f → o ≡ Ok tt → Sized f
 front_sized s f p q e = new_sized s f q (then_accepted _ _ (sym p ∙ e)).0
 
 -- what is read by them is the table's reading

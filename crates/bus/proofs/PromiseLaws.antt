@@ -1,4 +1,5 @@
 -- What is promised of the answers for bus drives.
+use Rattle.std.specs.Prelude.{Ok, Err}
 use Prim.Native.Nat.{ℕ, ◌≤◌, ◌<◌, ◌∣◌}
 use mathlib.Core.Path.{◌≡◌, refl, sym, ◌∙◌, ap}
 use mathlib.Core.List.{List, [], ◌∷◌, ◌++◌}
@@ -12,8 +13,7 @@ use Rattle.refusal.specs.Tests.{◌then◌, in_order}
 use Rattle.refusal.specs.Conditions.{Condition, None, First, Gives, Reports}
 use Rattle.refusal.specs.declared.Cause.{Cause}
 use Rattle.refusal.specs.declared.Cause.TheVariants.{BusPeriod}
-use Rattle.refusal.specs.declared.Outcome.{Outcome}
-use Rattle.refusal.specs.declared.Outcome.TheVariants.{Accepted, Refused}
+use Rattle.refusal.specs.Outcome.{Outcome}
 use Rattle.refusal.proofs.TestLaws.{outcome_cases, refuse_at_refused}
 use Rattle.refusal.proofs.ConditionLaws.{decides, no_number, none_first, none-append, first-behind, first_either, Numbers, first_number}
 use Rattle.fields.specs.Fields.{period_at}
@@ -45,13 +45,13 @@ use Rattle.bus.proofs.BusLaws.{bus_sound, bus-stored}
 
 -- a test put behind two of a list refuses, or changes nothing
 put_in : (a b c x : Outcome) (rest : List Outcome)
-    → (a then in_order (b ∷ c ∷ x ∷ rest) ≡ a then in_order (b ∷ c ∷ rest)) ⊎ ((cause : Cause) × (x ≡ Refused cause) × (a then in_order (b ∷ c ∷ x ∷ rest) ≡ Refused cause))
+    → (a then in_order (b ∷ c ∷ x ∷ rest) ≡ a then in_order (b ∷ c ∷ rest)) ⊎ ((cause : Cause) × (x ≡ Err cause) × (a then in_order (b ∷ c ∷ x ∷ rest) ≡ Err cause))
 unfolding in_order ◌then◌
-put_in (Refused d) b c x rest = inl refl
-put_in Accepted (Refused d) c x rest = inl refl
-put_in Accepted Accepted (Refused d) x rest = inl refl
-put_in Accepted Accepted Accepted Accepted rest = inl refl
-put_in Accepted Accepted Accepted (Refused d) rest = inr (d, refl, refl)
+put_in (Err d) b c x rest = inl refl
+put_in (Ok _) (Err d) c x rest = inl refl
+put_in (Ok _) (Ok _) (Err d) x rest = inl refl
+put_in (Ok _) (Ok _) (Ok _) (Ok _) rest = inl refl
+put_in (Ok _) (Ok _) (Ok _) (Err d) rest = inr (d, refl, refl)
 
 unless : (s : List ℕ) → number_in (bus_outcome s) ≢ 22 → bus_outcome s ≡ new_outcome s
 unfolding bus_outcome new_outcome
@@ -195,7 +195,7 @@ module _ (s : List ℕ) {r : Reading} (e : r ≡ reading_of (bus s)) where
   said : r.outcome ≡ (bus s).outcome
   said = read_outcome (bus s) e
 
-  listed_periods : r.outcome ≡ Accepted → (k : ℕ) → k < r.tasks.fields.n → Listed (period_at r.tasks.fields k)
+  listed_periods : r.outcome ≡ Ok tt → (k : ℕ) → k < r.tasks.fields.n → Listed (period_at r.tasks.fields k)
   unfolding bus
   listed_periods a = rw (read_fields (bus s) e a) ((table_accepts (bus_sound s)).0 (sym said ∙ a)).listed
 

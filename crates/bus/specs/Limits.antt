@@ -2,7 +2,7 @@
 use Rattle.std.specs.Prelude.{ℕ, ◌+◌, ◌*◌, ◌<◌, List, [], ◌∷◌, ◌++◌, get_or}
 use Rattle.refusal.specs.Tests.{◌then◌, in_order}
 use Rattle.refusal.specs.Conditions.{Condition}
-use Rattle.refusal.specs.declared.Outcome.{Outcome}
+use Rattle.refusal.specs.Outcome.{Outcome}
 use Rattle.fields.specs.Fields.{period_at}
 use Rattle.fields.specs.Tests.{charge_test, periods_test, budgets_test, costs_test, row_test, affinity_test, hyperperiod_test}
 use Rattle.fields.specs.Limits.{sizes, charge_above, period_outside, budget_outside, cost_above, affinity_unfit}

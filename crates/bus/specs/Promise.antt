@@ -4,7 +4,7 @@ use Rattle.std.specs.Int.{◌∣◌}
 use Rattle.numbers.specs.First.{FirstAt}
 use Rattle.refusal.specs.Causes.{number_in}
 use Rattle.refusal.specs.Conditions.{None, Gives}
-use Rattle.refusal.specs.declared.Outcome.{Outcome}
+use Rattle.refusal.specs.Outcome.{Outcome}
 use Rattle.fields.specs.Fields.{period_at}
 use Rattle.taskset.specs.Table.{reading_of}
 use Rattle.taskset.specs.declared.Reading.{Reading}

@@ -3,7 +3,6 @@
 
 ghost use Rattle.std.specs.Prelude.{◌≡◌};
 ghost use Rattle.refusal.specs.Tests.{◌then◌, in_order};
-ghost use Rattle.refusal.specs.declared.Outcome.TheVariants.{Accepted};
 ghost use Rattle.fields.specs.Limits.{Sized};
 ghost use Rattle.taskset.specs.Promise.{Reads};
 ghost use Rattle.taskset.specs.Table.{reading_of, Decided};
@@ -16,24 +15,18 @@ ghost use Rattle.bus.specs.Promise.{BusReads, BusPlans};
 
 use fields::Fields;
 use planner::Allocation;
-use refusal::Outcome;
+use refusal::Cause;
 use taskset::Reading;
 
 // The tests of a table's shape, then numbers 13, 5 and 22.
-fn front_tests(shape: Outcome, f: Fields) -> Outcome
-    requires { shape ≡ Accepted → Sized f }
+fn front_tests(shape: Result<(), Cause>, f: Fields) -> Result<(), Cause>
+    requires { shape ≡ Ok tt → Sized f }
     ensures { result ≡ shape then in_order (front_tests f) }
 {
-    match shape {
-        Outcome::Refused(cause) => Outcome::Refused(cause),
-        Outcome::Accepted => {
-            let charge = fields::charge_test(f);
-            let periods = limits::periods_test(f);
-            let list = profile::list_test(f);
-            let from_periods = refusal::then(periods, list);
-            refusal::then(charge, from_periods)
-        }
-    }
+    shape?;
+    fields::charge_test(f)?;
+    limits::periods_test(f)?;
+    profile::list_test(f)
 }
 
 // Reads a table for bus drives: its task set, or the first cause of refusal. All general limits are tested behind number 22, so that 13
@@ -46,8 +39,7 @@ pub fn read_bus(table: &[u8]) -> Reading
     ensures profile { BusReads table.now result }
 {
     let f = newform::decode(table);
-    let shape = newform::shape_tests(table, f);
-    let front = front_tests(shape, f);
+    let front = front_tests(newform::shape_tests(table, f), f);
     taskset::check_after(front, f)
 }
 

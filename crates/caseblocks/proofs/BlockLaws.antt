@@ -2,15 +2,9 @@
 use Prim.Native.Nat.{ℕ, ◌+◌, ◌*◌}
 use mathlib.Core.Path.{◌≡◌}
 use mathlib.Core.List.{List}
-use native.Mathlib.Nat.{zero-add}
 use Rattle.edf.specs.declared.Slot.{Slot}
 use Rattle.caseblocks.specs.Blocks.{slot_in}
-use Rattle.wire.specs.Bytes.{le32, word_at}
-
--- a number of the block's front
-pub front_word : (s : List ℕ) (k : ℕ) {v : ℕ} → v ≡ le32 s (4 * k) → v ≡ word_at s 0 k
-unfolding word_at
-front_word s k e = rw zero-add e
+use Rattle.wire.specs.Bytes.{le32}
 
 -- a slot's four numbers
 pub slot_read : (s : List ℕ) (k : ℕ) {p b u o : ℕ} → p ≡ le32 s (16 * k) → b ≡ le32 s (16 * k + 4) → u ≡ le32 s (16 * k + 8) → o ≡ le32 s (16 * k + 12)

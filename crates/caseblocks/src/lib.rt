@@ -15,12 +15,18 @@ use runs::Run;
 use std::io::Read;
 
 // What was read of a block: whether it is whole, and how many bytes it has. It is not whole, and has none, where the input ended or
-// the block is longer than it may be.
+// the block is longer than it may be. A struct and not an `Option`: `read_block`, which docs/DECISIONS.md names, hands it back, and its
+// clauses speak of both fields.
 #[derive(Clone, Copy)]
 pub struct Block {
     pub whole: bool,
     pub length: usize,
 }
+
+const NO_BLOCK: Block = Block {
+    whole: false,
+    length: 0,
+};
 
 // Reads a block into the front of a buffer, which is as long as the block may be. What stands behind the bytes of a whole block stays as it was.
 // A read that fails counts as the end of the input.
@@ -32,18 +38,12 @@ pub fn read_block<R: Read>(input: &mut R, buffer: &mut [u8]) -> Block
 {
     let mut head = [0u8; 2];
     if console::read_next(input, &mut head, 2) < 2 {
-        return Block {
-            whole: false,
-            length: 0,
-        };
+        return NO_BLOCK;
     }
     let length = wire::size(head[0]) + 256 * wire::size(head[1]);
     let got = console::read_next(input, buffer, length);
     if got < length {
-        return Block {
-            whole: false,
-            length: 0,
-        };
+        return NO_BLOCK;
     }
     Block {
         whole: true,
@@ -55,13 +55,7 @@ pub fn read_block<R: Read>(input: &mut R, buffer: &mut [u8]) -> Block
 pub fn numbers_of(bytes: &[u8]) -> [u32; 16]
     ensures { result ≡ row 0 16 (word_at bytes.now 0) }
 {
-    let mut numbers = [0u32; 16];
-    let mut k = 0usize;
-    while k < 16 {
-        numbers[k] = wire::word(bytes, 4 * k);
-        k += 1;
-    }
-    numbers
+    rows::words(bytes, 0, 16)
 }
 
 // Slot `k` of a record's bytes.
@@ -74,10 +68,10 @@ fn slot_in(bytes: &[u8], k: usize) -> Slot
     let until = wire::word(bytes, 16 * k + 8);
     let remaining = wire::word(bytes, 16 * k + 12);
     Slot {
-        period: period,
-        budget: budget,
-        until: until,
-        remaining: remaining,
+        period,
+        budget,
+        until,
+        remaining,
     }
 }
 
@@ -85,14 +79,7 @@ fn slot_in(bytes: &[u8], k: usize) -> Slot
 pub fn slots_in(bytes: &[u8]) -> [Slot; 16]
     ensures { result ≡ row empty_slot 16 (slot_in bytes.now) }
 {
-    let empty = slots::empty();
-    let mut slots = [empty; 16];
-    let mut k = 0usize;
-    while k < 16 {
-        slots[k] = slot_in(bytes, k);
-        k += 1;
-    }
-    slots
+    numbers::row(slots::empty(), 16, |k| slot_in(bytes, k))
 }
 
 // The record of the run log that twelve bytes say.
@@ -103,13 +90,13 @@ pub fn run_in(bytes: &[u8]) -> Run
     let first = wire::word(bytes, 4);
     let length = wire::word(bytes, 8);
     Run {
-        task: task,
-        first: first,
-        length: length,
+        task,
+        first,
+        length,
     }
 }
 
-// The fields that the blocks of code 8 say.
+// The fields that the blocks of code 8 say. Six parameters, one for each block: what they make up is `Fields` itself.
 pub fn fields_in(
     n: u32,
     m: u32,
@@ -123,10 +110,10 @@ pub fn fields_in(
     Fields {
         n: n as usize,
         m: m as usize,
-        periods: periods,
-        budgets: budgets,
-        charge: charge,
-        affinity: affinity,
+        periods,
+        budgets,
+        charge,
+        affinity,
         given: n as usize,
     }
 }

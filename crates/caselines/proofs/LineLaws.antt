@@ -1,12 +1,12 @@
 -- The lines of the cases, piece by piece.
+use Rattle.std.specs.Prelude.{Ok, Err}
 use Prim.Native.Nat.{ℕ}
 use mathlib.Core.Path.{◌≡◌, sym}
-use mathlib.Core.List.{List, []}
+use mathlib.Core.List.{List, [], ◌∷◌, append_assoc, append-nil}
 use native.Mathlib.Omega.{arith}
 use Rattle.refusal.specs.Causes.{number_of, place_of}
 use Rattle.refusal.specs.declared.Cause.{Cause}
-use Rattle.refusal.specs.declared.Outcome.{Outcome}
-use Rattle.refusal.specs.declared.Outcome.TheVariants as outcome
+use Rattle.refusal.specs.Outcome.{Outcome}
 use Rattle.fields.specs.declared.Fields.{Fields}
 use Rattle.taskset.specs.declared.TaskSet.{TaskSet}
 use Rattle.taskset.specs.declared.Reading.{Reading}
@@ -30,19 +30,19 @@ use Rattle.caselines.specs.Lines.{outcome_fields, slot_fields, record_fields, si
 
 -- number and place
 module _ {t r : Text} {o : Outcome} where
-  pub outcome_accepted : o ≡ outcome.Accepted → Appended t (ascii "0 0") 3 r → Appended t (outcome_fields o) 41 r
+  pub outcome_accepted : o ≡ Ok tt → Appended t (ascii "0 0") 3 r → Appended t (outcome_fields o) 41 r
   unfolding outcome_fields decimal digits_by front field
   outcome_accepted e p = rw e (append_within 41 p (omega arith))
 
-  pub outcome_refused : {a : Text} {cause : Cause} {x y : ℕ} → o ≡ outcome.Refused cause → x ≡ number_of cause → Appended t (decimal x) 20 a
+  pub outcome_refused : {a : Text} {cause : Cause} {x y : ℕ} → o ≡ Err cause → x ≡ number_of cause → Appended t (decimal x) 20 a
       → y ≡ place_of cause → Appended a (field y) 21 r → Appended t (outcome_fields o) 41 r
   unfolding outcome_fields
   outcome_refused e i p j q = rw e (append_both (rw i at p) (rw j at q))
 
-pub slot-made : {t a b d r : Text} (s : Slot) → Appended t (field s.period) 21 a → Appended a (field s.budget) 21 b
-    → Appended b (field s.until) 21 d → Appended d (field s.remaining) 21 r → Appended t (slot_fields s) 84 r
-unfolding slot_fields
-slot-made s p q u v = append_both (append_both (append_both p q) u) v
+pub slot-made : {t r : Text} (s : Slot) → Appended t (fields (s.period ∷ s.budget ∷ s.until ∷ s.remaining ∷ [])) 84 r
+    → Appended t (slot_fields s) 84 r
+unfolding slot_fields joined
+slot-made s p = simp append_assoc (simp append-nil at p)
 
 pub record_made : {t a r : Text} (c : Core) → Appended t (field c.charge) 21 a → Appended a (joined slot_fields c.slots) 1344 r
     → Appended t (record_fields c) 1365 r

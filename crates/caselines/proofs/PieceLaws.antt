@@ -7,22 +7,22 @@ use native.Mathlib.Decide.{dec_lt}
 use native.Mathlib.Omega.{arith}
 use lib.ListN.{length, take, length-take}
 use lib.Seq.{take_all, length-take-le}
-use Rattle.decimal.specs.Joined.{fields}
+use Rattle.decimal.specs.Joined.{joined}
 use Rattle.text.specs.Shown.{shown, Appended}
 use Rattle.text.specs.declared.Text.{Text}
 use Rattle.decimal.specs.Decimal.{field}
 use Rattle.text.proofs.ClipLaws.{append_both, append_whole}
-use Rattle.refusal.specs.declared.Outcome.{Outcome}
+use Rattle.refusal.specs.Outcome.{Outcome}
 use Rattle.storing.specs.declared.Transfer.{Transfer}
-use Rattle.caselines.specs.Lines.{outcome_fields, answer_start, piece}
+use Rattle.caselines.specs.Lines.{outcome_fields, answer_start}
 
 pub start_whole : {t a r : Text} (answer : Transfer) {o : Outcome} → shown t ≡ [] → answer.outcome ≡ o → Appended t (outcome_fields o) 41 a
     → Appended a (field answer.length) 21 r → shown r ≡ answer_start answer
 unfolding answer_start
 start_whole answer z i p q = append_whole z (append_both (rw (sym i) at p) q) (omega arith)
 
-module _ (left : List ℕ) {n : ℕ} (e : n ≡ min (length left) 100) where
-  -- there are as many bytes as make a piece
+module _ {A : Type 0} (left : List A) {n : ℕ} (e : n ≡ min (length left) 100) where
+  -- there are as many numbers as make a piece
   pub piece-there : n ≡ length (take n left)
   piece-there = sym (length-take-le n left (omega arith))
 
@@ -33,5 +33,6 @@ module _ (left : List ℕ) {n : ℕ} (e : n ≡ min (length left) 100) where
       (λ h. let f : n ≡ 100 = omega arith in ap (λ k. take k left) f)
 
   -- they fit a text
-  pub piece_whole : {t r : Text} → shown t ≡ [] → Appended t (fields (take n left)) (21 * length (take n left)) r → shown r ≡ piece left
-  piece_whole z p = append_whole z p (simp length-take (omega arith)) ∙ ap fields piece_is
+  pub piece_whole : (show : A → List ℕ) {t r : Text} → shown t ≡ [] → Appended t (joined show (take n left)) (21 * length (take n left)) r
+      → shown r ≡ joined show (take 100 left)
+  piece_whole show z p = append_whole z p (simp length-take (omega arith)) ∙ ap (joined show) piece_is

@@ -5,7 +5,7 @@ use Rattle.text.specs.Ascii.{ascii}
 use Rattle.decimal.specs.Decimal.{decimal, field}
 use Rattle.decimal.specs.Joined.{joined, fields}
 use Rattle.refusal.specs.Causes.{number_in, place_in}
-use Rattle.refusal.specs.declared.Outcome.{Outcome}
+use Rattle.refusal.specs.Outcome.{Outcome}
 use Rattle.fields.specs.declared.Fields.{Fields}
 use Rattle.taskset.specs.declared.TaskSet.{TaskSet}
 use Rattle.taskset.specs.declared.Reading.{Reading}
@@ -99,8 +99,8 @@ new_line r = outcome_fields r.outcome ++ board_fields r.tasks ++ row_fields r.ta
 unfoldable pub answer_start : Transfer → List ℕ
 answer_start a = outcome_fields a.outcome ++ field a.length
 
-abbrev pub piece : List ℕ → List ℕ
-piece left = fields (take 100 left)
+abbrev pub piece : {A : Type 0} → (A → ℕ) → List A → List ℕ
+piece f left = joined (λ x. field (f x)) (take 100 left)
 
 -- code 11: the order of tasks that feed each other
 unfoldable pub order_line : TaskOrder → List ℕ

@@ -17,8 +17,7 @@ pub fn core_line(started: Started) -> Text
     let nothing = text::empty();
     let outcome = started.outcome;
     let start = lines::append_outcome(nothing, outcome);
-    let core = started.core;
-    let record = lines::append_record(start, core);
+    let record = lines::append_record(start, started.core);
     text::append_bytes(record, b"\n")
 }
 

@@ -14,20 +14,17 @@ fn append_board(text: Text, t: TaskSet) -> Text
 {
     let n = decimal::append_field(text, t.fields.n as u64);
     let m = decimal::append_field(n, t.fields.m as u64);
-    let charge = decimal::append_field(m, t.fields.charge as u64);
-    decimal::append_field(charge, t.hyperperiod as u64)
+    let charge = decimal::append_field(m, u64::from(t.fields.charge));
+    decimal::append_field(charge, u64::from(t.hyperperiod))
 }
 
 // Periods, budgets and core bytes.
 fn append_rows(text: Text, f: Fields) -> Text
     ensures { Appended text (row_fields f) 1008 result }
 {
-    let periods = f.periods;
-    let budgets = f.budgets;
-    let affinity = f.affinity;
-    let p = lines::append_row(text, periods);
-    let b = lines::append_row(p, budgets);
-    lines::append_cores(b, affinity)
+    let p = lines::append_row(text, f.periods);
+    let b = lines::append_row(p, f.budgets);
+    lines::append_row(b, f.affinity)
 }
 
 // The line of a reading.

@@ -14,7 +14,6 @@ pub fn order_line(answer: TaskOrder) -> Text
     let nothing = text::empty();
     let outcome = answer.outcome;
     let start = lines::append_outcome(nothing, outcome);
-    let order = answer.order;
-    let tasks = lines::append_cores(start, order);
+    let tasks = lines::append_row(start, answer.order);
     text::append_bytes(tasks, b"\n")
 }

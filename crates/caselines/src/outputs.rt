@@ -4,9 +4,9 @@
 // answers, up to 65,535 bytes, and the records. Of code 15, the expander: the records, and the output, up to 65,535 bytes. Records are a length
 // in four bytes, lowest first, then that many bytes, up to 720,000: twelve a record, task, first tick and length in four each. The line has every
 // byte of the output or every number of the records, more than a text holds, so it is printed in pieces.
-ghost use Rattle.std.specs.Prelude.{◌≡◌, min, ◌*◌, length};
-ghost use Rattle.text.specs.Shown.{shown, Appended};
-ghost use Rattle.decimal.specs.Joined.{fields};
+ghost use Rattle.std.specs.Prelude.{◌≡◌, ℕ, min};
+ghost use Rattle.text.specs.Shown.{shown};
+ghost use Rattle.decimal.specs.Joined.{Converts};
 ghost use Rattle.caselines.specs.Lines.{answer_start, piece as piece_of};
 
 use crate::lines;
@@ -23,41 +23,21 @@ pub fn answer_start(answer: Transfer) -> Text
     decimal::append_field(start, answer.length as u64)
 }
 
-// How many of the bytes that are left make the next piece.
+// How many numbers a piece has at most.
+pub const PIECE: usize = 100;
+
+// How many of the numbers that are left make the next piece.
 pub fn piece_length(left: usize) -> usize
     ensures { result ≡ min left 100 }
 {
-    if left < 100 { left } else { 100 }
+    left.min(PIECE)
 }
 
-// The next piece, of the bytes that are left.
-pub fn piece(left: &[u8]) -> Text
-    ensures { shown result ≡ piece_of left.now }
+// The next piece, of the bytes or numbers that are left.
+pub fn piece<T: Copy + Into<u64>>(left: &[T]) -> Text
+    ensures { (f : T → ℕ) → Converts T.converts f → shown result ≡ piece_of f left.now }
 {
     let nothing = text::empty();
     let n = piece_length(left.len());
     decimal::append_numbers(nothing, &left[..n])
-}
-
-// The text with some numbers after it, a space before each.
-fn append_words(t: Text, words: &[u32]) -> Text
-    ensures { Appended t (fields words.now) (21 * length words.now) result }
-{
-    let mut longer = t;
-    let mut k = 0;
-    while k < words.len() {
-        let next = decimal::append_field(longer, words[k] as u64);
-        longer = next;
-        k += 1;
-    }
-    longer
-}
-
-// The next piece, of the numbers that are left.
-pub fn word_piece(left: &[u32]) -> Text
-    ensures { shown result ≡ piece_of left.now }
-{
-    let nothing = text::empty();
-    let n = piece_length(left.len());
-    append_words(nothing, &left[..n])
 }

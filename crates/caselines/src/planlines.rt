@@ -28,9 +28,8 @@ pub fn plan_line(plan: Allocation) -> Text
     let verdict = plan.verdict;
     let start = lines::append_outcome(nothing, planner::verdict_outcome(verdict));
     let word = decimal::append_field(start, verdict_number(verdict));
-    let rejected = decimal::append_field(word, plan.rejected as u64);
-    let steps = decimal::append_field(rejected, plan.steps as u64);
-    let placement = plan.placement;
-    let cores = lines::append_cores(steps, placement);
+    let rejected = decimal::append_field(word, u64::from(plan.rejected));
+    let steps = decimal::append_field(rejected, u64::from(plan.steps));
+    let cores = lines::append_row(steps, plan.placement);
     text::append_bytes(cores, b"\n")
 }

@@ -14,8 +14,7 @@ pub fn quick_line(plan: QuickPlan) -> Text
     let nothing = text::empty();
     let outcome = plan.outcome;
     let start = lines::append_outcome(nothing, outcome);
-    let rejected = decimal::append_field(start, plan.rejected as u64);
-    let placement = plan.placement;
-    let cores = lines::append_cores(rejected, placement);
+    let rejected = decimal::append_field(start, u64::from(plan.rejected));
+    let cores = lines::append_row(rejected, plan.placement);
     text::append_bytes(cores, b"\n")
 }

@@ -16,7 +16,6 @@ pub fn record_line(ticked: Ticked) -> Text
     let start = lines::append_outcome(nothing, outcome);
     let run = decimal::append_field(start, ticked.run as u64);
     let late = decimal::append_field(run, ticked.late as u64);
-    let core = ticked.core;
-    let record = lines::append_record(late, core);
+    let record = lines::append_record(late, ticked.core);
     text::append_bytes(record, b"\n")
 }

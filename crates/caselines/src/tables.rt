@@ -21,13 +21,7 @@ fn order_numbers(order: [usize; 16], n: usize) -> [u32; 16]
     requires { Listed order n }
     ensures { result ≡ task_numbers order n }
 {
-    let mut numbers = [0u32; 16];
-    let mut k = 0;
-    while k < n {
-        numbers[k] = task_number(order[k]);
-        k += 1;
-    }
-    numbers
+    numbers::row(0, n, |k| task_number(order[k]))
 }
 
 fn append_sizes(text: Text, t: TaskSet) -> Text
@@ -35,7 +29,7 @@ fn append_sizes(text: Text, t: TaskSet) -> Text
 {
     let n = decimal::append_field(text, t.fields.n as u64);
     let m = decimal::append_field(n, t.fields.m as u64);
-    decimal::append_field(m, t.hyperperiod as u64)
+    decimal::append_field(m, u64::from(t.hyperperiod))
 }
 
 // Periods, budgets, demands and planning order.
@@ -43,14 +37,11 @@ fn append_tasks(text: Text, t: TaskSet) -> Text
     requires { t.fields.n ≤ 16 }
     ensures { Appended text (task_fields t) 1344 result }
 {
-    let periods = t.fields.periods;
-    let budgets = t.fields.budgets;
-    let demands = t.demands;
     let order = ordering::planning_order(t);
     let numbers = order_numbers(order, t.fields.n);
-    let p = lines::append_row(text, periods);
-    let b = lines::append_row(p, budgets);
-    let d = lines::append_row(b, demands);
+    let p = lines::append_row(text, t.fields.periods);
+    let b = lines::append_row(p, t.fields.budgets);
+    let d = lines::append_row(b, t.demands);
     lines::append_row(d, numbers)
 }
 
@@ -62,8 +53,7 @@ pub fn table_line(r: Reading) -> Text
     let nothing = text::empty();
     let outcome = r.outcome;
     let start = lines::append_outcome(nothing, outcome);
-    let tasks = r.tasks;
-    let sizes = append_sizes(start, tasks);
-    let rows = append_tasks(sizes, tasks);
+    let sizes = append_sizes(start, r.tasks);
+    let rows = append_tasks(sizes, r.tasks);
     text::append_bytes(rows, b"\n")
 }

@@ -3,17 +3,19 @@
 #![tactic(auto)]
 
 ghost use Rattle.std.specs.Prelude.{◌≤◌, length};
-ghost use Rattle.console.specs.Counts.{IsPrefixLen};
 ghost use Rattle.logwords.specs.Words.{records_in};
 
-use caseblocks::Block;
-use fields::Fields;
-use refusal::Outcome;
+use caselines::outputs::PIECE;
 use runner::Core;
 use runs::Logged;
 use std::io::{Stderr, Stdin, Stdout};
 use storing::Transfer;
+use taskset::Reading;
 use text::Text;
+
+// Why the program stops: the input ended, a case is not whole or has no such code, or the output failed.
+#[derive(Clone, Copy)]
+struct Stop;
 
 // Where the cases come from, where their lines go, and where it is said that the output failed.
 #[derive(Drop)]
@@ -23,490 +25,292 @@ struct Streams {
     errors: Stderr,
 }
 
-// Prints a text; false where the output fails.
-fn show(streams: &mut Streams, t: Text) -> bool {
-    console::show(&mut streams.output, &mut streams.errors, t).whole
-}
+impl Streams {
+    // Prints a text.
+    fn show(&mut self, t: Text) -> Result<(), Stop> {
+        if console::show(&mut self.output, &mut self.errors, t).whole {
+            Ok(())
+        } else {
+            Err(Stop)
+        }
+    }
 
-// Reads a block of exactly the buffer's length; false where there is none.
-fn read_exact(streams: &mut Streams, buffer: &mut [u8]) -> bool {
-    let length = buffer.len();
-    let block = caseblocks::read_block(&mut streams.input, buffer);
-    block.whole & (block.length == length)
-}
+    // Prints numbers, in pieces, and ends the line.
+    fn show_numbers<T: Copy + Into<u64>>(&mut self, numbers: &[T]) -> Result<(), Stop> {
+        for piece in numbers.chunks(PIECE) {
+            self.show(caselines::outputs::piece(piece))?;
+        }
+        self.show(text::append_bytes(text::empty(), b"\n"))
+    }
 
-// A number that was read, and whether its block is whole.
-#[derive(Clone, Copy)]
-struct Number {
-    whole: bool,
-    value: u32,
-}
+    // Reads so many bytes.
+    fn bytes<const N: usize>(&mut self) -> Result<[u8; N], Stop> {
+        let mut bytes = [0u8; N];
+        if console::read_next(&mut self.input, &mut bytes, N) < N {
+            return Err(Stop);
+        }
+        Ok(bytes)
+    }
 
-// Reads a number, a block of 4 bytes.
-fn read_number(streams: &mut Streams) -> Number {
-    let mut bytes = [0u8; 4];
-    let whole = read_exact(streams, &mut bytes);
-    Number {
-        whole: whole,
-        value: wire::word(&bytes, 0),
+    // Reads a block into a buffer, which is as long as the block may be, and returns its bytes.
+    fn block<'a>(&mut self, buffer: &'a mut [u8]) -> Result<&'a mut [u8], Stop> {
+        let block = caseblocks::read_block(&mut self.input, buffer);
+        if block.whole {
+            Ok(&mut buffer[..block.length])
+        } else {
+            Err(Stop)
+        }
+    }
+
+    // Reads a block of exactly so many bytes.
+    fn exactly<const N: usize>(&mut self) -> Result<[u8; N], Stop> {
+        let mut bytes = [0u8; N];
+        let block = caseblocks::read_block(&mut self.input, &mut bytes);
+        if block.whole && block.length == N {
+            Ok(bytes)
+        } else {
+            Err(Stop)
+        }
+    }
+
+    // Reads a number, a block of 4 bytes.
+    fn number(&mut self) -> Result<u32, Stop> {
+        let bytes = self.exactly::<4>()?;
+        Ok(wire::word(&bytes, 0))
+    }
+
+    // Reads sixteen numbers, a block of 64 bytes.
+    fn sixteen(&mut self) -> Result<[u32; 16], Stop> {
+        let bytes = self.exactly::<64>()?;
+        Ok(caseblocks::numbers_of(&bytes))
     }
 }
 
-// Sixteen numbers that were read, and whether their block is whole.
-#[derive(Clone, Copy)]
-struct Sixteen {
-    whole: bool,
-    numbers: [u32; 16],
-}
-
-// Reads sixteen numbers, a block of 64 bytes.
-fn read_sixteen(streams: &mut Streams) -> Sixteen {
-    let mut bytes = [0u8; 64];
-    let whole = read_exact(streams, &mut bytes);
-    let numbers = caseblocks::numbers_of(&bytes);
-    Sixteen {
-        whole: whole,
-        numbers: numbers,
-    }
-}
-
-// Prints a table's line; false where the output fails.
-fn run_table(streams: &mut Streams, table: &[u8]) -> bool {
+// Code 1: reads a table and prints its line.
+fn run_table(streams: &mut Streams) -> Result<(), Stop> {
+    let mut table = [0u8; 1024];
+    let table = streams.block(&mut table)?;
     let reading = oldform::read_alone(table);
-    show(streams, caselines::tables::table_line(reading))
+    streams.show(caselines::tables::table_line(reading))
 }
 
-// Prints the line of a table in the new form, read by code 7 as any and by any other code as one for bus drives; false where the output
-// fails.
-fn run_setup(streams: &mut Streams, code: u8, table: &[u8]) -> bool {
-    let reading = match code {
-        7 => newform::read_new(table),
-        _ => bus::read_bus(table),
-    };
-    show(streams, caselines::newtables::new_line(reading))
+// Codes 7 and 12: reads a table in the new form, as any or as one for bus drives, and prints its line.
+fn run_setup<F: Fn(&[u8]) -> Reading>(streams: &mut Streams, read: F) -> Result<(), Stop>
+    requires { F.IsAlwaysCallable read }
+{
+    let mut table = [0u8; 1024];
+    let table = streams.block(&mut table)?;
+    streams.show(caselines::newtables::new_line(read(table)))
 }
 
-// Reads a limit and prints the plan's line; false where the case is not whole or the output fails.
-fn run_plan(streams: &mut Streams, table: &[u8], charge: u32, cores: &[u8]) -> bool {
-    let limit = read_number(streams);
-    if !limit.whole {
-        return false;
-    }
-    let plan = planner::plan(table, charge, cores, limit.value);
-    show(streams, caselines::planlines::plan_line(plan))
-}
-
-// The same for a table for bus drives.
-fn run_bus_plan(streams: &mut Streams, table: &[u8]) -> bool {
-    let limit = read_number(streams);
-    if !limit.whole {
-        return false;
-    }
-    let plan = bus::plan_bus(table, limit.value);
-    show(streams, caselines::planlines::plan_line(plan))
-}
-
-// Prints the quick plan's line; false where the output fails.
-fn run_quick(streams: &mut Streams, table: &[u8], charge: u32, cores: &[u8]) -> bool {
-    let plan = quick::quick_plan(table, charge, cores);
-    show(streams, caselines::quicks::quick_line(plan))
-}
-
-// Prints the step ceiling's line; false where the output fails.
-fn run_ceiling(streams: &mut Streams, table: &[u8], charge: u32, cores: &[u8]) -> bool {
-    let answer = ceiling::step_ceiling(table, charge, cores);
-    show(streams, caselines::ceilings::ceiling_line(answer))
-}
-
-// Reads the requests of each tick, and if the core was accepted makes the tick and prints its line; false where the case is not whole
-// or the output fails.
-fn run_ticks(streams: &mut Streams, core: Core, accepted: bool, count: u32) -> bool {
-    let mut present = core;
-    let mut left = count;
-    while 0 < left {
-        let requests = read_sixteen(streams);
-        if !requests.whole {
-            return false;
-        }
-        if accepted {
-            let numbers = requests.numbers;
-            let ticked = present.tick(numbers);
-            if !show(streams, caselines::cores::tick_line(ticked)) {
-                return false;
-            }
-            let next = ticked.core;
-            present = next;
-        }
-        left -= 1;
-    }
-    true
-}
-
-fn is_accepted(outcome: Outcome) -> bool {
-    match outcome {
-        Outcome::Accepted => true,
-        Outcome::Refused(_) => false,
-    }
-}
-
-// Reads core number and tick count, prints the core's line and runs its ticks; false where the case is not whole or the output fails.
-fn run_started(
+// Codes 2, 3, 5 and 6: reads a table, a charge and core bytes, and runs the case on them.
+fn run_on_board<F: Fn(&mut Streams, &[u8], u32, &[u8]) -> Result<(), Stop>>(
     streams: &mut Streams,
-    table: &[u8],
-    charge: u32,
-    cores: &[u8],
-    placement: &[u8],
-) -> bool {
-    let mut number = [0u8; 1];
-    if !read_exact(streams, &mut number) {
-        return false;
-    }
-    let count = read_number(streams);
-    if !count.whole {
-        return false;
-    }
-    let started = start::fresh(table, charge, cores, placement, number[0]);
-    if !show(streams, caselines::cores::core_line(started)) {
-        return false;
-    }
-    let outcome = started.outcome;
-    run_ticks(streams, started.core, is_accepted(outcome), count.value)
+    run: F,
+) -> Result<(), Stop>
+    requires { F.IsAlwaysCallable run }
+{
+    let mut table = [0u8; 1024];
+    let table = streams.block(&mut table)?;
+    let charge = streams.number()?;
+    let mut cores = [0u8; 1024];
+    let cores = streams.block(&mut cores)?;
+    run(streams, table, charge, cores)
 }
 
-// Reads a placement and runs the core; false where the case is not whole or the output fails.
-fn run_core(streams: &mut Streams, table: &[u8], charge: u32, cores: &[u8]) -> bool {
+// Code 2: reads a limit and prints the plan's line.
+fn run_plan(streams: &mut Streams, table: &[u8], charge: u32, cores: &[u8]) -> Result<(), Stop> {
+    let limit = streams.number()?;
+    let plan = planner::plan(table, charge, cores, limit);
+    streams.show(caselines::planlines::plan_line(plan))
+}
+
+// Code 3: reads a placement, core number and tick count, prints the core's line and runs its ticks.
+fn run_core(streams: &mut Streams, table: &[u8], charge: u32, cores: &[u8]) -> Result<(), Stop> {
     let mut placement = [0u8; 1024];
-    let block = caseblocks::read_block(&mut streams.input, &mut placement);
-    if !block.whole {
-        return false;
-    }
-    let n = block.length;
-    run_started(streams, table, charge, cores, &placement[..n])
+    let placement = streams.block(&mut placement)?;
+    let [number] = streams.exactly::<1>()?;
+    let count = streams.number()?;
+    let started = start::fresh(table, charge, cores, placement, number);
+    streams.show(caselines::cores::core_line(started))?;
+    let outcome = started.outcome;
+    let accepted = matches!(outcome, Ok(()));
+    run_ticks(streams, accepted.then_some(started.core), count)
 }
 
-// Reads a charge, slots and sixteen requests and prints the tick's line; false where the case is not whole or the output fails.
-fn run_record(streams: &mut Streams) -> bool {
-    let charge = read_number(streams);
-    if !charge.whole {
-        return false;
+// Reads the requests of each tick, and if the core was accepted makes the tick and prints its line.
+fn run_ticks(streams: &mut Streams, core: Option<Core>, count: u32) -> Result<(), Stop> {
+    let mut present = core;
+    for _ in 0..count {
+        let requests = streams.sixteen()?;
+        if let Some(core) = present {
+            let ticked = core.tick(requests);
+            streams.show(caselines::cores::tick_line(ticked))?;
+            present = Some(ticked.core);
+        }
     }
-    let mut record = [0u8; 256];
-    if !read_exact(streams, &mut record) {
-        return false;
-    }
-    let requests = read_sixteen(streams);
-    if !requests.whole {
-        return false;
-    }
+    Ok(())
+}
+
+// Code 5: prints the quick plan's line.
+fn run_quick(streams: &mut Streams, table: &[u8], charge: u32, cores: &[u8]) -> Result<(), Stop> {
+    let plan = quick::quick_plan(table, charge, cores);
+    streams.show(caselines::quicks::quick_line(plan))
+}
+
+// Code 6: prints the step ceiling's line.
+fn run_ceiling(streams: &mut Streams, table: &[u8], charge: u32, cores: &[u8]) -> Result<(), Stop> {
+    let answer = ceiling::step_ceiling(table, charge, cores);
+    streams.show(caselines::ceilings::ceiling_line(answer))
+}
+
+// Code 13: reads a table for bus drives and a limit, and prints the plan's line.
+fn run_bus_plan(streams: &mut Streams) -> Result<(), Stop> {
+    let mut table = [0u8; 1024];
+    let table = streams.block(&mut table)?;
+    let limit = streams.number()?;
+    let plan = bus::plan_bus(table, limit);
+    streams.show(caselines::planlines::plan_line(plan))
+}
+
+// Code 4: reads a charge, slots and sixteen requests, and prints the tick's line.
+fn run_record(streams: &mut Streams) -> Result<(), Stop> {
+    let charge = streams.number()?;
+    let record = streams.exactly::<256>()?;
+    let requests = streams.sixteen()?;
     let slots = caseblocks::slots_in(&record);
-    let core = Core {
-        slots: slots,
-        charge: charge.value,
-    };
-    let numbers = requests.numbers;
-    show(
-        streams,
-        caselines::recordlines::record_line(core.tick(numbers)),
-    )
+    let core = Core { slots, charge };
+    streams.show(caselines::recordlines::record_line(core.tick(requests)))
 }
 
-// Prints every byte of an output and ends the line; false where the output fails.
-fn show_bytes(streams: &mut Streams, out: &[u8]) -> bool {
-    let mut at = 0;
-    while at < out.len() {
-        if !show(streams, caselines::outputs::piece(&out[at..])) {
-            return false;
-        }
-        at += caselines::outputs::piece_length(out.len() - at);
-    }
-    end_line(streams)
+// Prints the line of a call that stored a table.
+fn show_stored(streams: &mut Streams, answer: Transfer, out: &[u8]) -> Result<(), Stop> {
+    streams.show(caselines::outputs::answer_start(answer))?;
+    streams.show_numbers(out)
 }
 
-// Ends the line; false where the output fails.
-fn end_line(streams: &mut Streams) -> bool {
-    let nothing = text::empty();
-    show(streams, text::append_bytes(nothing, b"\n"))
-}
-
-// Prints the line of a call that stored a table; false where the output fails.
-fn show_stored(streams: &mut Streams, answer: Transfer, out: &[u8]) -> bool {
-    if !show(streams, caselines::outputs::answer_start(answer)) {
-        return false;
-    }
-    show_bytes(streams, out)
-}
-
-// Writes fields to a lent output and prints the line; false where the output fails.
-fn write_fields(streams: &mut Streams, f: Fields, out: &mut [u8]) -> bool {
-    let answer = transfer::write_new(f, out);
+// Code 8: reads fields and a lent output, writes the fields to it and prints the line.
+fn run_writer(streams: &mut Streams) -> Result<(), Stop> {
+    let n = streams.number()?;
+    let m = streams.number()?;
+    let charge = streams.number()?;
+    let periods = streams.sixteen()?;
+    let budgets = streams.sixteen()?;
+    let affinity = streams.exactly::<16>()?;
+    let fields = caseblocks::fields_in(n, m, charge, periods, budgets, affinity);
+    let mut out = [0u8; 1024];
+    let out = streams.block(&mut out)?;
+    let answer = transfer::write_new(fields, out);
     show_stored(streams, answer, out)
 }
 
-// Reads a lent output and writes fields to it; false where the case is not whole or the output fails.
-fn run_fields(streams: &mut Streams, f: Fields) -> bool {
+// Codes 9 and 10: reads a table and a lent output, moves the table to it and prints the line.
+fn run_move<F: Fn(&[u8], &mut [u8]) -> Transfer>(
+    streams: &mut Streams,
+    shift: F,
+) -> Result<(), Stop>
+    requires { F.IsAlwaysCallable shift }
+{
+    let mut table = [0u8; 1024];
+    let table = streams.block(&mut table)?;
     let mut out = [0u8; 1024];
-    let block = caseblocks::read_block(&mut streams.input, &mut out);
-    if !block.whole {
-        return false;
-    }
-    let n = block.length;
-    write_fields(streams, f, &mut out[..n])
-}
-
-// Reads fields and runs the writer; false where the case is not whole or the output fails.
-fn run_writer(streams: &mut Streams) -> bool {
-    let n = read_number(streams);
-    let m = read_number(streams);
-    let charge = read_number(streams);
-    let periods = read_sixteen(streams);
-    let budgets = read_sixteen(streams);
-    let mut affinity = [0u8; 16];
-    let last = read_exact(streams, &mut affinity);
-    if !(n.whole & m.whole & charge.whole & periods.whole & budgets.whole & last) {
-        return false;
-    }
-    let p = periods.numbers;
-    let b = budgets.numbers;
-    run_fields(
-        streams,
-        caseblocks::fields_in(n.value, m.value, charge.value, p, b, affinity),
-    )
-}
-
-// Moves a table to a lent output, to the new form by code 9 and back by any other, and prints the line; false where the output fails.
-fn move_table(streams: &mut Streams, code: u8, table: &[u8], out: &mut [u8]) -> bool {
-    let answer = match code {
-        9 => transfer::to_new(table, out),
-        _ => transfer::to_old(table, out),
-    };
+    let out = streams.block(&mut out)?;
+    let answer = shift(table, out);
     show_stored(streams, answer, out)
 }
 
-// Reads a lent output and moves a table to it; false where the case is not whole or the output fails.
-fn run_move(streams: &mut Streams, code: u8, table: &[u8]) -> bool {
-    let mut out = [0u8; 1024];
-    let block = caseblocks::read_block(&mut streams.input, &mut out);
-    if !block.whole {
-        return false;
-    }
-    let n = block.length;
-    move_table(streams, code, table, &mut out[..n])
-}
-
-// Reads a dependency list, checks it beside a table and prints the line; false where the case is not whole or the output fails.
-fn run_dependencies(streams: &mut Streams, table: &[u8]) -> bool {
+// Code 11: reads a table and a dependency list, checks the list and prints the line.
+fn run_dependencies(streams: &mut Streams) -> Result<(), Stop> {
+    let mut table = [0u8; 1024];
+    let table = streams.block(&mut table)?;
     let mut list = [0u8; 1024];
-    let block = caseblocks::read_block(&mut streams.input, &mut list);
-    if !block.whole {
-        return false;
-    }
-    let n = block.length;
-    let answer = dependencies::check_dependencies(table, &list[..n]);
-    show(streams, caselines::orders::order_line(answer))
+    let list = streams.block(&mut list)?;
+    let answer = dependencies::check_dependencies(table, list);
+    streams.show(caselines::orders::order_line(answer))
 }
 
-// Prints every number of a row of records and ends the line; false where the output fails.
-fn show_words(streams: &mut Streams, words: &[u32]) -> bool {
-    let mut at = 0;
-    while at < words.len() {
-        if !show(streams, caselines::outputs::word_piece(&words[at..])) {
-            return false;
-        }
-        at += caselines::outputs::piece_length(words.len() - at);
-    }
-    end_line(streams)
-}
-
-// Prints number, place and count; false where the output fails.
-fn show_answer(streams: &mut Streams, answer: Logged) -> bool {
+// Prints number, place and count.
+fn show_answer(streams: &mut Streams, answer: Logged) -> Result<(), Stop> {
     let outcome = answer.outcome;
     let counted = Transfer {
         outcome: outcome,
         length: answer.count,
     };
-    show(streams, caselines::outputs::answer_start(counted))
+    streams.show(caselines::outputs::answer_start(counted))
 }
 
-// Reads `n` records into a row of numbers; false where the input ends before.
-fn read_runs(streams: &mut Streams, words: &mut [u32], n: usize) -> bool
+// Reads `n` records into a row of numbers.
+fn read_runs(streams: &mut Streams, words: &mut [u32], n: usize) -> Result<(), Stop>
     requires { n ≤ length (records_in words.old) }
 {
-    let mut k: usize = 0;
-    while k < n {
-        let mut bytes = [0u8; 12];
-        if console::read_next(&mut streams.input, &mut bytes, 12) < 12 {
-            return false;
-        }
+    for k in 0..n {
+        let bytes = streams.bytes::<12>()?;
         logwords::put_run(words, k, caseblocks::run_in(&bytes));
-        k += 1;
     }
-    true
+    Ok(())
 }
 
-// Reads records into the front of a row of numbers, which is as long as they may be, and returns how many numbers they have; not whole
-// where the input ends, the length is not that of whole records, or there are too many.
-fn read_records(streams: &mut Streams, words: &mut [u32]) -> Block
-    ensures { IsPrefixLen result.length words.new }
-{
-    let none = Block {
-        whole: false,
-        length: 0,
-    };
-    let mut head = [0u8; 4];
-    if console::read_next(&mut streams.input, &mut head, 4) < 4 {
-        return none;
-    }
+// Reads records into the front of a row of numbers, which is as long as they may be, and returns their numbers. The length has to be that
+// of whole records.
+fn read_records<'a>(streams: &mut Streams, words: &'a mut [u32]) -> Result<&'a mut [u32], Stop> {
+    let head = streams.bytes::<4>()?;
     let size = wire::word(&head, 0) as usize;
     let n = size / 12;
-    if size % 12 != 0 {
-        return none;
+    if size % 12 != 0 || words.len() / 3 < n {
+        return Err(Stop);
     }
-    if words.len() / 3 < n {
-        return none;
-    }
-    let whole = read_runs(streams, words, n);
-    Block {
-        whole: whole,
-        length: 3 * n,
-    }
+    read_runs(streams, words, n)?;
+    Ok(&mut words[..3 * n])
 }
 
-// Writes answers into records and prints the line; false where the output fails.
-fn write_log(streams: &mut Streams, answers: &[u8], words: &mut [u32]) -> bool {
-    let answer = logwords::write_words(answers, words);
-    if !show_answer(streams, answer) {
-        return false;
-    }
-    show_words(streams, words)
-}
-
-// Expands records into an output and prints the line; false where the output fails.
-fn expand_log(streams: &mut Streams, words: &[u32], out: &mut [u8]) -> bool {
-    let answer = logwords::expand_words(words, out);
-    if !show_answer(streams, answer) {
-        return false;
-    }
-    show_bytes(streams, out)
-}
-
-// Reads records and writes answers into them; false where the case is not whole or the output fails.
-fn run_into_records(streams: &mut Streams, answers: &[u8]) -> bool {
-    let mut words = [0u32; 180000];
-    let block = read_records(streams, &mut words);
-    if !block.whole {
-        return false;
-    }
-    let n = block.length;
-    write_log(streams, answers, &mut words[..n])
-}
-
-// Reads answers and runs the writer; false where the case is not whole or the output fails.
-fn run_log_writer(streams: &mut Streams) -> bool {
+// Code 14: reads answers and records, writes the answers into the records and prints the line.
+fn run_log_writer(streams: &mut Streams) -> Result<(), Stop> {
     let mut answers = [0u8; 65535];
-    let block = caseblocks::read_block(&mut streams.input, &mut answers);
-    if !block.whole {
-        return false;
-    }
-    let n = block.length;
-    run_into_records(streams, &answers[..n])
-}
-
-// Reads an output and expands records into it; false where the case is not whole or the output fails.
-fn run_into_bytes(streams: &mut Streams, words: &[u32]) -> bool {
-    let mut out = [0u8; 65535];
-    let block = caseblocks::read_block(&mut streams.input, &mut out);
-    if !block.whole {
-        return false;
-    }
-    let n = block.length;
-    expand_log(streams, words, &mut out[..n])
-}
-
-// Reads records and runs the expander; false where the case is not whole or the output fails.
-fn run_log_expander(streams: &mut Streams) -> bool {
+    let answers = streams.block(&mut answers)?;
     let mut words = [0u32; 180000];
-    let block = read_records(streams, &mut words);
-    if !block.whole {
-        return false;
-    }
-    let n = block.length;
-    run_into_bytes(streams, &words[..n])
+    let words = read_records(streams, &mut words)?;
+    let answer = logwords::write_words(answers, words);
+    show_answer(streams, answer)?;
+    streams.show_numbers(words)
 }
 
-// Runs a case whose first blocks were this table, this charge and these core bytes; false where there is no such code, the case is not
-// whole, or the output fails.
-fn run_permitted(streams: &mut Streams, code: u8, table: &[u8], charge: u32, cores: &[u8]) -> bool {
+// Code 15: reads records and an output, expands the records into the output and prints the line.
+fn run_log_expander(streams: &mut Streams) -> Result<(), Stop> {
+    let mut words = [0u32; 180000];
+    let words = read_records(streams, &mut words)?;
+    let mut out = [0u8; 65535];
+    let out = streams.block(&mut out)?;
+    let answer = logwords::expand_words(words, out);
+    show_answer(streams, answer)?;
+    streams.show_numbers(out)
+}
+
+// Runs a case by its code.
+fn run_case(streams: &mut Streams, code: u8) -> Result<(), Stop> {
     match code {
-        2 => run_plan(streams, table, charge, cores),
-        3 => run_core(streams, table, charge, cores),
-        5 => run_quick(streams, table, charge, cores),
-        6 => run_ceiling(streams, table, charge, cores),
-        _ => false,
-    }
-}
-
-// Reads core bytes and runs a case whose first blocks were this table and this charge; false where the case is not whole or fails.
-fn run_charged(streams: &mut Streams, code: u8, table: &[u8], charge: u32) -> bool {
-    let mut cores = [0u8; 1024];
-    let block = caseblocks::read_block(&mut streams.input, &mut cores);
-    if !block.whole {
-        return false;
-    }
-    let n = block.length;
-    run_permitted(streams, code, table, charge, &cores[..n])
-}
-
-// Reads a charge and runs a case whose first block was this table; false where the case is not whole or fails.
-fn run_on_board(streams: &mut Streams, code: u8, table: &[u8]) -> bool {
-    let charge = read_number(streams);
-    if !charge.whole {
-        return false;
-    }
-    run_charged(streams, code, table, charge.value)
-}
-
-// Runs a case whose first block was this table: the codes named here go on without a charge. False where the case is not whole or fails.
-fn run_on(streams: &mut Streams, code: u8, table: &[u8]) -> bool {
-    match code {
-        1 => run_table(streams, table),
-        7 | 12 => run_setup(streams, code, table),
-        9 | 10 => run_move(streams, code, table),
-        11 => run_dependencies(streams, table),
-        13 => run_bus_plan(streams, table),
-        _ => run_on_board(streams, code, table),
-    }
-}
-
-// Reads a table and runs the case; false where it is not whole or the output fails.
-fn run_tabled(streams: &mut Streams, code: u8) -> bool {
-    let mut table = [0u8; 1024];
-    let block = caseblocks::read_block(&mut streams.input, &mut table);
-    if !block.whole {
-        return false;
-    }
-    let n = block.length;
-    run_on(streams, code, &table[..n])
-}
-
-// Runs a case by its code: each but codes 4 and 8, which begin with a number, and those of the run log begins with a table. False where
-// there is no such code, the case is not whole, or the output fails.
-fn run_case(streams: &mut Streams, code: u8) -> bool {
-    match code {
+        1 => run_table(streams),
+        2 => run_on_board(streams, run_plan),
+        3 => run_on_board(streams, run_core),
         4 => run_record(streams),
+        5 => run_on_board(streams, run_quick),
+        6 => run_on_board(streams, run_ceiling),
+        7 => run_setup(streams, newform::read_new),
         8 => run_writer(streams),
+        9 => run_move(streams, transfer::to_new),
+        10 => run_move(streams, transfer::to_old),
+        11 => run_dependencies(streams),
+        12 => run_setup(streams, bus::read_bus),
+        13 => run_bus_plan(streams),
         14 => run_log_writer(streams),
         15 => run_log_expander(streams),
-        _ => run_tabled(streams, code),
+        _ => Err(Stop),
     }
 }
 
-// Reads a code and runs its case; false where the input ends or the case fails.
-fn run_next(streams: &mut Streams) -> bool {
-    let mut code = [0u8; 1];
-    if console::read_next(&mut streams.input, &mut code, 1) < 1 {
-        return false;
-    }
-    run_case(streams, code[0])
+// Reads a code and runs its case.
+fn run_next(streams: &mut Streams) -> Result<(), Stop> {
+    let [code] = streams.bytes::<1>()?;
+    run_case(streams, code)
 }
 
 // One case after another, until the input ends or one fails. A loop has to end: the count bounds this one, and no input reaches it.
@@ -517,7 +321,7 @@ fn main(rt: HostRuntime) {
         errors: rt.stderr(),
     };
     for _ in 0..u64::MAX {
-        if !run_next(&mut streams) {
+        if run_next(&mut streams).is_err() {
             return;
         }
     }

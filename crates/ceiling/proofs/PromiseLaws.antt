@@ -1,4 +1,5 @@
 -- The step ceiling keeps what is promised of it, and is accepted exactly for valid tables.
+use Rattle.std.specs.Prelude.{Ok, Err}
 use Prim.Native.Nat.{ℕ, pred, ◌+◌, ◌≤◌, ◌<◌}
 use native.Mathlib.Nat.{le_trans, le_of_eq}
 use native.Mathlib.Omega.{arith}
@@ -21,8 +22,7 @@ use Rattle.affinity.proofs.PermittedLaws.{count_grows, count_within, count-full,
 use Rattle.refusal.proofs.TestLaws.{accepted≢refused, by_accepted, by_refused, by_both, by_says}
 use Rattle.refusal.proofs.ConditionLaws.{decides}
 use Rattle.refusal.specs.declared.Cause.{Cause}
-use Rattle.refusal.specs.declared.Outcome.{Outcome}
-use Rattle.refusal.specs.declared.Outcome.TheVariants as outcome
+use Rattle.refusal.specs.Outcome.{Outcome}
 use Rattle.fields.specs.Fields.{affinity_at, Free}
 use Rattle.fields.specs.Limits.{Within}
 use Rattle.fields.specs.declared.Fields.{Fields}
@@ -163,7 +163,7 @@ unfolding ceiling_of ceiling_by ceiling_for refused_ceiling
 ceiling_outcome t = by_says refused_ceiling ceiling_for (λ a. a.outcome) (λ c. refl) (λ f. refl) t.outcome t.fields
 
 module _ {t : Table} (s : Sound t) where
-  refused_promise : (c : Cause) → t.outcome ≡ outcome.Refused c → Promise t (refused_ceiling c)
+  refused_promise : (c : Cause) → t.outcome ≡ Err c → Promise t (refused_ceiling c)
   unfolding refused_ceiling refused_plan
   refused_promise c e = record {
     valid = λ v. absurd (accepted≢refused ((table_accepts s).1 v) e);
@@ -171,7 +171,7 @@ module _ {t : Table} (s : Sound t) where
     refused = λ n. refl;
   }
 
-  accepted_promise : t.outcome ≡ outcome.Accepted → Promise t (ceiling_for t.fields)
+  accepted_promise : t.outcome ≡ Ok tt → Promise t (ceiling_for t.fields)
   unfolding ceiling_for
   accepted_promise e = record {
     valid = λ v. ceils t.fields (s.within v);
@@ -195,14 +195,14 @@ ceiling_all {t} s e {r} w = let a : r ≡ ceiling_of t = w ∙ read_answer t e r
 
 -- ---- by the outcome of the reading
 
-pub ceiling_refused : (f : Fields) {o : Outcome} {c : Cause} → o ≡ outcome.Refused c → ◌≡◌ {A = StepCeiling} (record { outcome = outcome.Refused c; ceiling = 0 }) (ceiling_by o f)
+pub ceiling_refused : (f : Fields) {o : Outcome} {c : Cause} → o ≡ Err c → ◌≡◌ {A = StepCeiling} (record { outcome = Err c; ceiling = 0 }) (ceiling_by o f)
 unfolding ceiling_by refused_ceiling
 ceiling_refused f q = sym (by_refused refused_ceiling ceiling_for f q)
 
-pub ceiling_accepted : (f : Fields) {o : Outcome} → o ≡ outcome.Accepted → {x : ℕ} → x ≡ step_ceiling f
-    → ◌≡◌ {A = StepCeiling} (record { outcome = outcome.Accepted; ceiling = x }) (ceiling_by o f)
+pub ceiling_accepted : (f : Fields) {o : Outcome} → o ≡ Ok tt → {x : ℕ} → x ≡ step_ceiling f
+    → ◌≡◌ {A = StepCeiling} (record { outcome = Ok tt; ceiling = x }) (ceiling_by o f)
 unfolding ceiling_by ceiling_for
-ceiling_accepted f q w = ap (λ x. record { outcome = outcome.Accepted; ceiling = x }) w ∙ sym (by_accepted refused_ceiling ceiling_for f q)
+ceiling_accepted f q w = ap (λ x. record { outcome = Ok tt; ceiling = x }) w ∙ sym (by_accepted refused_ceiling ceiling_for f q)
 
 -- ---- the usual limit
 

@@ -1,11 +1,10 @@
 -- The step ceiling's answer.
-use Rattle.std.specs.Prelude.{ℕ, List}
+use Rattle.std.specs.Prelude.{ℕ, List, Ok, Err}
 use Rattle.numbers.specs.Reorder.{gather}
 use Rattle.numbers.specs.Rows.{tab}
 use Rattle.refusal.specs.Tests.{by_outcome}
 use Rattle.refusal.specs.declared.Cause.{Cause}
-use Rattle.refusal.specs.declared.Outcome.{Outcome}
-use Rattle.refusal.specs.declared.Outcome.TheVariants.{Accepted, Refused}
+use Rattle.refusal.specs.Outcome.{Outcome}
 use Rattle.fields.specs.Fields.{affinity_at}
 use Rattle.fields.specs.declared.Fields.{Fields}
 use Rattle.taskset.specs.Table.{Table}
@@ -23,11 +22,11 @@ step_ceiling f = sum_of_products (factor_for (some_tied (planned_bytes f) f.n f.
 
 -- the answer for fields within the limits
 unfoldable pub ceiling_for : Fields → StepCeiling
-ceiling_for f = record { outcome = Accepted; ceiling = step_ceiling f }
+ceiling_for f = record { outcome = Ok tt; ceiling = step_ceiling f }
 
 -- a refused table has ceiling 0
 unfoldable pub refused_ceiling : Cause → StepCeiling
-refused_ceiling cause = record { outcome = Refused cause; ceiling = 0 }
+refused_ceiling cause = record { outcome = Err cause; ceiling = 0 }
 
 -- the answer by the outcome of a table's tests and by its fields
 unfoldable pub ceiling_by : Outcome → Fields → StepCeiling

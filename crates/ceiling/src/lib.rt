@@ -8,13 +8,13 @@ ghost use Rattle.oldform.specs.Limits.{beside};
 ghost use Rattle.ceiling.specs.Ceiling.{step_ceiling, ceiling_by, ceiling_of};
 ghost use Rattle.ceiling.specs.Promise.{Promise};
 
-use refusal::Outcome;
+use refusal::Cause;
 use taskset::{Reading, TaskSet};
 
 // The answer: a refused table has ceiling 0.
 #[derive(Clone, Copy)]
 pub struct StepCeiling {
-    pub outcome: Outcome,
+    pub outcome: Result<(), Cause>,
     pub ceiling: u64,
 }
 
@@ -36,19 +36,15 @@ pub fn ceiling_read(reading: Reading) -> StepCeiling
     requires { Reads reading }
     ensures { result ≡ ceiling_by reading.outcome reading.tasks.fields }
 {
-    let outcome = reading.outcome;
-    match outcome {
-        Outcome::Refused(cause) => StepCeiling {
-            outcome: Outcome::Refused(cause),
+    match reading.outcome {
+        Err(cause) => StepCeiling {
+            outcome: Err(cause),
             ceiling: 0,
         },
-        Outcome::Accepted => {
-            let ceiling = ceiling_of(reading.tasks);
-            StepCeiling {
-                outcome: Outcome::Accepted,
-                ceiling: ceiling,
-            }
-        }
+        Ok(()) => StepCeiling {
+            outcome: Ok(()),
+            ceiling: ceiling_of(reading.tasks),
+        },
     }
 }
 

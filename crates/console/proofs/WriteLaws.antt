@@ -1,28 +1,38 @@
 -- How many bytes a text shows, and what the output took of them.
-use Prim.Native.Nat.{ℕ, ◌≤◌, ◌<◌}
-use mathlib.Core.Path.{◌≡◌, sym}
-use lib.ListN.{length, take, length-take}
+use Prim.Native.Nat.{ℕ, ◌+◌, ◌-◌, ◌≤◌, min}
+use mathlib.Core.Path.{◌≡◌, sym, ◌∙◌, ap}
+use mathlib.Core.List.{List, ◌++◌, append_assoc}
+use lib.ListN.{length, take, drop, length-drop}
+use lib.Seq.{take_all, length-take-le}
+use mathlib.Core.Logic.{by_cases}
+use native.Mathlib.Decide.{dec_lt}
 use native.Mathlib.Omega.{arith}
-use Rattle.std.proofs.lemmas.List.{take-take}
+use Rattle.std.specs.Prelude.{None, Some}
+use Rattle.std.proofs.Math.Seq.{take-append-add}
+use Rattle.std.proofs.lemmas.List.{take-append-drop}
+use Rattle.std.specs.declared.option.Option.{Option}
+use Rattle.std.specs.Io.KnownBytes.{Appends}
 use Rattle.text.specs.Shown.{shown}
 use Rattle.text.specs.declared.Text.{Text}
 
--- a text shows as many as its length says
-pub short_shown : (t : Text) → length t.bytes ≡ 2560 → t.length < 2560 → t.length ≡ length (shown t)
+-- a text shows as many bytes as its length says, or all that it has
+pub front_shown : (t : Text) → length t.bytes ≡ 2560 → take (min t.length 2560) t.bytes ≡ shown t
 unfolding shown
-short_shown t l h = simp length-take (omega arith)
+front_shown t l =
+    by_cases (dec_lt t.length 2560)
+    (λ h. let e : min t.length 2560 ≡ t.length = omega arith in ap (λ n. take n t.bytes) e)
+    (λ h. take_all _ t.bytes (omega arith) ∙ sym (take_all t.length t.bytes (omega arith)))
 
--- or all that it has
-pub long_shown : (t : Text) → length t.bytes ≡ 2560 → 2560 ≤ t.length → 2560 ≡ length (shown t)
-unfolding shown
-long_shown t l h = simp length-take (omega arith)
+-- what is written behind what was written before stands behind it
+pub appends_both : (a b c : Option (List ℕ)) (bs cs : List ℕ) → Appends a b bs → Appends b c cs → Appends a c (bs ++ cs)
+appends_both None b c bs cs p q = tt
+appends_both (Some x) None c bs cs p q = absurd p
+appends_both (Some x) (Some y) None bs cs p q = absurd q
+appends_both (Some x) (Some y) (Some z) bs cs p q = q ∙ ap (λ l. l ++ cs) p ∙ append_assoc x bs cs
 
--- no more than it has
-pub shown_within : (t : Text) → length (shown t) ≤ length t.bytes
-unfolding shown
-shown_within t = simp length-take (omega arith)
-
--- a front of what is shown is a front of what the text has
-pub front_shown : (t : Text) (k : ℕ) → k ≤ length (shown t) → take k t.bytes ≡ take k (shown t)
-unfolding shown
-front_shown t k h = sym (take-take k t.length t.bytes (omega (arith, length-take t.length t.bytes, h)))
+-- a front, and a front of the rest
+pub front_more : (a r : ℕ) (xs : List ℕ) → a ≤ length xs → take a xs ++ take r (take (length xs - a) (drop a xs)) ≡ take (a + r) xs
+front_more a r xs within =
+    let rest = take_all (length xs - a) (drop a xs) (omega (arith, length-drop a xs)) in
+    ap (λ l. take a xs ++ take r l) rest ∙ sym (take-append-add (take a xs) (drop a xs) r)
+    ∙ ap (λ n. take (n + r) (take a xs ++ drop a xs)) (length-take-le a xs within) ∙ ap (take (a + r)) (take-append-drop a xs)

@@ -1,7 +1,7 @@
 // What the programs share: reading their input and writing a text.
 #![tactic(auto)]
 
-ghost use Rattle.std.specs.Prelude.{◌≡◌, ◌≤◌, true, false, [], ◌∷◌, length, take, drop};
+ghost use Rattle.std.specs.Prelude.{◌≡◌, ◌≤◌, true, false, length, take, drop};
 ghost use Rattle.std.specs.Io.KnownBytes.{Keeps, Appends, Consumes};
 ghost use Rattle.text.specs.Ascii.{ascii};
 ghost use Rattle.text.specs.Shown.{shown};
@@ -12,7 +12,8 @@ use std::io::{Read, Write};
 use text::Text;
 
 // Reads up to `n` bytes of the input into the front of the buffer and returns how many there were; none where the buffer is shorter.
-// What stands behind the first `n` bytes stays as it was. A read that fails counts as the end of the input.
+// What stands behind the first `n` bytes stays as it was. A read that fails counts as the end of the input. `n` stands beside the buffer and
+// is no slice's length: docs/DECISIONS.md names this function, and its edit `longer_than_the_buffer` is about that test.
 pub fn read_next<R: Read>(input: &mut R, buffer: &mut [u8], n: usize) -> usize
     ensures counts { IsPrefixLen result buffer.new }
     ensures most { result ≤ n }
@@ -31,6 +32,7 @@ fn read_full<R: Read>(input: &mut R, buffer: &mut [u8]) -> usize
     ensures bytes { Consumes (R.remaining input.old) (R.remaining input.new) (take result buffer.new) }
 {
     let mut done = 0;
+    // A `while`, since a turn goes on by as many bytes as the call read, and not by one.
     while done < buffer.len() {
         let got = read_once(input, &mut buffer[done..]);
         if got == 0 {
@@ -46,60 +48,45 @@ fn read_once<R: Read>(input: &mut R, buffer: &mut [u8]) -> usize
     ensures counts { IsPrefixLen result buffer.new }
     ensures bytes { Consumes (R.remaining input.old) (R.remaining input.new) (take result buffer.new) }
 {
-    match input.read(buffer) {
-        Ok(got) => got,
-        Err(_) => 0,
-    }
+    input.read(buffer).unwrap_or(0)
 }
 
-// How many bytes of a text an output took, and whether these are all that it shows.
+// How many bytes of a text an output took, and whether these are all that it shows. A struct and not a `Result`: `show` and `warn`, which
+// docs/DECISIONS.md names, hand it back, and their clauses speak of both fields.
 #[derive(Clone, Copy)]
 pub struct Written {
     pub taken: usize,
     pub whole: bool,
 }
 
-// How many bytes a text shows.
-fn shown_length(t: Text) -> usize
-    ensures { result ≡ length (shown t) }
+// The bytes that a text shows.
+fn shown_bytes(t: &Text) -> &[u8]
+    ensures { result.now ≡ shown t.now }
 {
-    if t.length < 2560 { t.length } else { 2560 }
+    &t.bytes[..t.length.min(2560)]
 }
 
-// Writes the first `n` bytes with one call and returns how many the output took; none where the write failed.
-fn write_once<W: Write>(output: &mut W, bytes: &[u8], n: usize) -> usize
-    requires { n ≤ length bytes.now }
-    ensures most { result ≤ n }
+// Writes with one call and returns how many bytes the output took; none where the write failed.
+fn write_once<W: Write>(output: &mut W, bytes: &[u8]) -> usize
+    ensures most { result ≤ length bytes.now }
     ensures bytes { Appends (W.contents output.old) (W.contents output.new) (take result bytes.now) }
 {
-    match output.write(&bytes[..n]) {
-        Ok(taken) => taken,
-        Err(_) => 0,
-    }
+    output.write(bytes).unwrap_or(0)
 }
 
-// The same for one byte.
-fn write_byte<W: Write>(output: &mut W, b: u8) -> usize
-    ensures most { result ≤ 1 }
-    ensures bytes { Appends (W.contents output.old) (W.contents output.new) (take result (b ∷ [])) }
-{
-    let one = [b];
-    write_once(output, &one, 1)
-}
-
-// Writes the first `n` bytes, byte by byte once a call took fewer, and returns how many the output took.
-fn write_bytes<W: Write>(output: &mut W, bytes: &[u8], n: usize) -> usize
-    requires { n ≤ length bytes.now }
-    ensures most { result ≤ n }
+// Writes until all bytes are taken, or a call takes none, and returns how many the output took.
+fn write_bytes<W: Write>(output: &mut W, bytes: &[u8]) -> usize
+    ensures most { result ≤ length bytes.now }
     ensures bytes { Appends (W.contents output.old) (W.contents output.new) (take result bytes.now) }
 {
-    let mut done = write_once(output, bytes, n);
-    while done < n {
-        let put = write_byte(output, bytes[done]);
-        if put == 0 {
+    let mut done = 0;
+    // A `while`, since a turn goes on by as many bytes as the call took, and not by one.
+    while done < bytes.len() {
+        let taken = write_once(output, &bytes[done..]);
+        if taken == 0 {
             return done;
         }
-        done += put;
+        done += taken;
     }
     done
 }
@@ -109,10 +96,9 @@ fn put<W: Write>(output: &mut W, t: Text) -> Written
     ensures took { Took (shown t) result }
     ensures bytes { Appends (W.contents output.old) (W.contents output.new) (take result.taken (shown t)) }
 {
-    let n = shown_length(t);
-    let bytes = t.bytes;
-    let taken = write_bytes(output, &bytes, n);
-    let whole = taken == n;
+    let bytes = shown_bytes(&t);
+    let taken = write_bytes(output, bytes);
+    let whole = taken == bytes.len();
     Written { taken, whole }
 }
 
@@ -125,7 +111,7 @@ pub fn show<W: Write, E: Write>(output: &mut W, errors: &mut E, t: Text) -> Writ
 {
     let written = put(output, t);
     if !written.whole {
-        write_bytes(errors, b"standard output failed\n", 23);
+        write_bytes(errors, b"standard output failed\n");
     }
     written
 }

@@ -1,13 +1,13 @@
 -- A loop that appends a piece for each of n elements.
 use Prim.Native.Nat.{ℕ, ◌+◌, ◌*◌, ◌≤◌, ◌<◌}
-use mathlib.Core.Path.{◌≡◌, sym, ◌∙◌, ap}
+use mathlib.Core.Path.{◌≡◌, sym, ◌∙◌, ap, subst}
 use mathlib.Core.List.{List, [], ◌∷◌, ◌++◌, append_assoc, append-nil}
 use lib.ListN.{length, take, get_or}
 use lib.Seq.{take_all, take-suc}
 use native.Mathlib.Omega.{arith}
 use native.Mathlib.Numerals.{add-one}
 use Rattle.text.specs.Shown.{Appended}
-use Rattle.decimal.specs.Joined.{joined}
+use Rattle.decimal.specs.Joined.{joined, Converts}
 use Rattle.text.specs.declared.Text.{Text}
 use Rattle.text.proofs.ClipLaws.{append-none, append_both, append_within}
 
@@ -42,3 +42,15 @@ module _ {A : Type 0} {piece : A → List ℕ} {most n : ℕ} {t : Text} {l : Li
       let e : k ≡ n = omega (arith, s.top) in
       let whole : take n l ≡ l = take_all n l (omega (arith, s.size)) in
       append_within bound (rw whole at (rw e at s.is)) b
+
+-- The next piece of a loop over the list, which has its element and not the index: what shows of an element is its number.
+pub join_item : {A : Type 0} (show : ℕ → List ℕ) (f : A → ℕ) {most n : ℕ} {t r next : Text} {l : List A} {k v : ℕ} {d : A}
+    → Joined (λ x. show (f x)) most n t l r k → k < n → d ≡ get_or l k d → v ≡ f d → Appended r (show v) most next
+    → Joined (λ x. show (f x)) most n t l next (k + 1)
+join_item show f {most = most} {r = r} {next = next} {d = d} s h i e p =
+    let at : ℕ → Type 0 = λ x. Appended r (show x) most next in
+    join_next d s h (subst at (e ∙ ap f i) p)
+
+-- a number is converted into itself, whatever its width
+pub as_itself : Converts (λ (x y : ℕ). y ≡ x) (λ x. x)
+as_itself x y e = e

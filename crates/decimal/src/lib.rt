@@ -1,10 +1,10 @@
 // Numbers in decimal, appended to a text.
 #![tactic(auto)]
 
-ghost use Rattle.std.specs.Prelude.{◌≡◌, ◌+◌, ◌*◌, ◌%◌, length};
+ghost use Rattle.std.specs.Prelude.{◌≡◌, ℕ, ◌+◌, ◌*◌, ◌%◌, length};
 ghost use Rattle.text.specs.Shown.{Appended};
 ghost use Rattle.decimal.specs.Decimal.{decimal, field};
-ghost use Rattle.decimal.specs.Joined.{fields};
+ghost use Rattle.decimal.specs.Joined.{joined, Converts};
 
 use text::Text;
 
@@ -34,16 +34,13 @@ pub fn append_field(t: Text, x: u64) -> Text
     append_decimal(spaced, x)
 }
 
-// The text with some bytes after it as numbers, a space before each.
-pub fn append_numbers(t: Text, bytes: &[u8]) -> Text
-    ensures { Appended t (fields bytes.now) (21 * length bytes.now) result }
+// The text with some numbers after it, a space before each.
+pub fn append_numbers<T: Copy + Into<u64>>(t: Text, numbers: &[T]) -> Text
+    ensures { (f : T → ℕ) → Converts T.converts f → Appended t (joined (λ x. field (f x)) numbers.now) (21 * length numbers.now) result }
 {
     let mut longer = t;
-    let mut k = 0;
-    while k < bytes.len() {
-        let next = append_field(longer, bytes[k] as u64);
-        longer = next;
-        k += 1;
+    for x in numbers {
+        longer = append_field(longer, (*x).into());
     }
     longer
 }

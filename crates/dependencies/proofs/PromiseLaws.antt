@@ -1,18 +1,18 @@
 -- The check of a dependency list keeps what is promised of it.
+use Rattle.std.specs.Prelude.{Ok, Err}
 use Prim.Native.Nat.{ℕ, ◌-◌, ◌≤◌}
 use mathlib.Core.Path.{◌≡◌, refl, sym, ◌∙◌, ap}
 use mathlib.Core.Bool.{Bool}
 use mathlib.Core.List.{List}
-use mathlib.Core.Logic.{◌⊎◌, inl, inr, ◌≢◌, ⊎_elim}
+use mathlib.Core.Logic.{inl, inr, ⊎_elim}
 use lib.ListN.{length, length-append, length-replicate}
 use native.Mathlib.Omega.{arith}
 use Rattle.numbers.specs.Rows.{padded}
 use Rattle.refusal.specs.Causes.{number_of, place_of}
-use Rattle.refusal.specs.Tests.{◌then◌, in_order}
+use Rattle.refusal.specs.Tests.{in_order}
 use Rattle.refusal.specs.Conditions.{First}
 use Rattle.refusal.specs.declared.Cause.{Cause}
-use Rattle.refusal.specs.declared.Outcome.{Outcome}
-use Rattle.refusal.specs.declared.Outcome.TheVariants.{Accepted, Refused}
+use Rattle.refusal.specs.Outcome.{Outcome}
 use Rattle.refusal.proofs.CauseLaws.{number_range}
 use Rattle.refusal.proofs.TestLaws.{accepted≢refused, then_first, then_refused, by_accepted, by_refused, by_both, by_says}
 use Rattle.refusal.proofs.ConditionLaws.{decides, first_either, Numbers, first_number}
@@ -77,7 +77,7 @@ module _ {t : Table} (s : Sound t) (below : (number place : ℕ) → First t.con
   unfolding order_of
   order_decided e = rw (e, by_outcome_lem list) (decides fed_sound.tested)
 
-  refused_promise : (c : Cause) → (fed_by t list).outcome ≡ Refused c → Promise t list (refused_order c)
+  refused_promise : (c : Cause) → (fed_by t list).outcome ≡ Err c → Promise t list (refused_order c)
   unfolding refused_order
   refused_promise c e = record {
     accepted = (λ z. absurd (omega (arith, (number_range c).0, z)), λ v. absurd (accepted≢refused ((table_accepts fed_sound).1 v) e));
@@ -89,7 +89,7 @@ module _ {t : Table} (s : Sound t) (below : (number place : ℕ) → First t.con
     refused = λ n. refl;
   }
 
-  accepted_promise : (fed_by t list).outcome ≡ Accepted → Promise t list (order_for list t.fields)
+  accepted_promise : (fed_by t list).outcome ≡ Ok tt → Promise t list (order_for list t.fields)
   unfolding order_for
   accepted_promise e =
       let v = (table_accepts fed_sound).0 e in
@@ -119,23 +119,23 @@ new-below s = first_number (λ k. k ≤ 18) (new s).conditions numbers
 -- ---- the steps of the program
 
 module _ (t : Table) (list : List ℕ) {reading : Reading} (e : reading ≡ reading_of t) where
-  pub order_refused : {c : Cause} {r : TaskOrder} → reading.outcome ≡ Refused c → r ≡ refused_order c → r ≡ order_of t list
+  pub order_refused : {c : Cause} {r : TaskOrder} → reading.outcome ≡ Err c → r ≡ refused_order c → r ≡ order_of t list
   unfolding order_of order_by
   order_refused q h = h ∙ sym (by_refused refused_order (order_for list) t.fields (then_refused _ _ _ (sym (read_outcome t e) ∙ q)))
 
-  pub order_read : {r : TaskOrder} → reading.outcome ≡ Accepted → r ≡ order_by list (in_order (list_tests reading.tasks.fields list)) reading.tasks.fields → r ≡ order_of t list
+  pub order_read : {r : TaskOrder} → reading.outcome ≡ Ok tt → r ≡ order_by list (in_order (list_tests reading.tasks.fields list)) reading.tasks.fields → r ≡ order_of t list
   unfolding order_of
   order_read a h = rw (then_first t.outcome (in_order (list_tests t.fields list)) (sym (read_outcome t e) ∙ a)) (rw (read_fields t e a) at h)
 
 -- by the outcome of the list's tests
 module _ (f : Fields) (list : List ℕ) {o : Outcome} (p : o ≡ in_order (list_tests f list)) where
-  pub order_no : {c : Cause} {r : TaskOrder} → o ≡ Refused c → r ≡ refused_order c → r ≡ order_by list (in_order (list_tests f list)) f
+  pub order_no : {c : Cause} {r : TaskOrder} → o ≡ Err c → r ≡ refused_order c → r ≡ order_by list (in_order (list_tests f list)) f
   unfolding order_by
   order_no q h = h ∙ sym (by_refused refused_order (order_for list) f (sym p ∙ q))
 
-  pub order_yes : {cells : List Bool} {order : List ℕ} → o ≡ Accepted → f.n ≤ 16 → Cells cells (feeds list) → order ≡ padded (ordered (edge cells) f.n f.n)
-      → record { outcome = Accepted; order = order } ≡ order_by list (in_order (list_tests f list)) f
+  pub order_yes : {cells : List Bool} {order : List ℕ} → o ≡ Ok tt → f.n ≤ 16 → Cells cells (feeds list) → order ≡ padded (ordered (edge cells) f.n f.n)
+      → record { outcome = Ok tt; order = order } ≡ order_by list (in_order (list_tests f list)) f
   unfolding order_by order_for
   order_yes {cells} q few s h =
-      ap (λ x. record { outcome = Accepted; order = x }) (h ∙ ap padded (ordered_cong (edge cells) (feeds list) 17 s.at f.n (omega arith) f.n))
+      ap (λ x. record { outcome = Ok tt; order = x }) (h ∙ ap padded (ordered_cong (edge cells) (feeds list) 17 s.at f.n (omega arith) f.n))
       ∙ sym (by_accepted refused_order (order_for list) f (sym p ∙ q))

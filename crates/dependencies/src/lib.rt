@@ -11,12 +11,13 @@ ghost use Rattle.dependencies.specs.Order.{refused_order, order_by, order_of};
 ghost use Rattle.dependencies.specs.Promise.{Promise};
 
 use fields::{Fields, MOST_TASKS};
-use refusal::{Cause, Outcome};
+use refusal::Cause;
 
-// The answer: the numbers of the tasks in their order, and zeros up to sixteen; sixteen zeros beside a refusal.
+// The answer: the numbers of the tasks in their order, and zeros up to sixteen; sixteen zeros beside a refusal. A struct and not a
+// `Result`: the paper asks for the zeros, and `Promise` promises them.
 #[derive(Clone, Copy)]
 pub struct TaskOrder {
-    pub outcome: Outcome,
+    pub outcome: Result<(), Cause>,
     pub order: [u8; MOST_TASKS],
 }
 
@@ -25,7 +26,7 @@ fn refused(cause: Cause) -> TaskOrder
     ensures { result ≡ refused_order cause }
 {
     TaskOrder {
-        outcome: Outcome::Refused(cause),
+        outcome: Err(cause),
         order: [0; MOST_TASKS],
     }
 }
@@ -35,16 +36,12 @@ fn order_tasks(f: Fields, list: &[u8]) -> TaskOrder
     requires { f.n ≤ 16 }
     ensures { result ≡ order_by list.now (in_order (list_tests f list.now)) f }
 {
-    let tested = feeding::list_tests(f, list);
-    match tested {
-        Outcome::Refused(cause) => refused(cause),
-        Outcome::Accepted => {
-            let order = sequencing::task_order(feeding::relation_of(list), f.n);
-            TaskOrder {
-                outcome: Outcome::Accepted,
-                order: order,
-            }
-        }
+    match feeding::list_tests(f, list) {
+        Err(cause) => refused(cause),
+        Ok(()) => TaskOrder {
+            outcome: Ok(()),
+            order: sequencing::task_order(feeding::relation_of(list), f.n),
+        },
     }
 }
 
@@ -56,9 +53,8 @@ pub fn check_dependencies(table: &[u8], list: &[u8]) -> TaskOrder
     ensures promise { Promise (new table.now) list.now result }
 {
     let reading = newform::read_new(table);
-    let outcome = reading.outcome;
-    match outcome {
-        Outcome::Refused(cause) => refused(cause),
-        Outcome::Accepted => order_tasks(reading.tasks.fields, list),
+    match reading.outcome {
+        Err(cause) => refused(cause),
+        Ok(()) => order_tasks(reading.tasks.fields, list),
     }
 }

@@ -10,7 +10,7 @@ pub struct Slot {
     pub remaining: u32,
 }
 
-// A task, by its number, that wants the core at a tick, and its deadline. Task 0 stands for none.
+// A task, by its number, that wants the core at a tick, and its deadline. Task 0 stands for none, as in the paper's answers.
 #[derive(Clone, Copy)]
 pub struct Claim {
     pub task: usize,

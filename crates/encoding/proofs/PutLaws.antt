@@ -5,11 +5,11 @@ use mathlib.Core.List.{List, [], ◌∷◌, ◌++◌, append_assoc}
 use lib.ListN.{length, take, drop, set, length-append}
 use native.Mathlib.Omega.{arith}
 use Rattle.wire.specs.Bytes.{bytes_of_all, over}
-use Rattle.wire.proofs.WriteBackLaws.{front_bytes}
+use Rattle.wire.proofs.WriteBackLaws.{front_long, front_bytes}
 use Rattle.wire.proofs.LentLaws.{over-two, over_four, over-front, over_next, length_over}
 use Rattle.fields.specs.Limits.{Within}
 use Rattle.fields.specs.declared.Fields.{Fields}
-use Rattle.fields.proofs.LimitLaws.{periods_there, budgets_there}
+use Rattle.fields.proofs.LimitLaws.{periods_there, budgets_there, affinity_there}
 use Rattle.oldform.specs.Form.{old_bytes}
 use Rattle.oldform.proofs.BackLaws.{old_long}
 use Rattle.newform.specs.Form.{new_bytes}
@@ -33,6 +33,16 @@ module _ (f : Fields) (w : Within f) (o : List ℕ) where
   abbrev A : List ℕ
   A = take f.n f.affinity
 
+  -- as many of each as there are tasks
+  periods_count : length (take f.n f.periods) ≡ f.n
+  periods_count = front_long f.periods (periods_there f w)
+
+  budgets_count : length (take f.n f.budgets) ≡ f.n
+  budgets_count = front_long f.budgets (budgets_there f w)
+
+  affinity_count : length A ≡ f.n
+  affinity_count = front_long f.affinity (affinity_there f w)
+
   periods_long : length P ≡ 4 * f.n
   periods_long = front_bytes f.periods (periods_there f w)
 
@@ -47,8 +57,8 @@ module _ (f : Fields) (w : Within f) (o : List ℕ) where
     lead : leading ≡ over o 0 (0 ∷ f.n ∷ f.m ∷ f.charge ∷ [])
     lead = over_four o 0 0 f.n f.m f.charge (omega arith)
 
-    pub periods_room : (f.n ≤ 16) × (4 + 4 * f.n ≤ length leading)
-    periods_room = (w.sizes.tasks.1, room_left o (0 ∷ f.n ∷ f.m ∷ f.charge ∷ []) lead (omega arith) (omega arith))
+    pub periods_room : 4 + 4 * length (take f.n f.periods) ≤ length leading
+    periods_room = rw periods_count (room_left o (0 ∷ f.n ∷ f.m ∷ f.charge ∷ []) lead (omega arith) (omega arith))
 
     module _ {o2 : List ℕ} (e : o2 ≡ over leading 4 P) where
       with_periods : o2 ≡ over o 0 (0 ∷ f.n ∷ f.m ∷ f.charge ∷ P)
@@ -57,8 +67,8 @@ module _ (f : Fields) (w : Within f) (o : List ℕ) where
       to_budgets : length (0 ∷ f.n ∷ f.m ∷ f.charge ∷ P) ≡ 4 + 4 * f.n
       to_budgets = omega (arith, periods_long)
 
-      pub budgets_room : (f.n ≤ 16) × (4 + 4 * f.n + 4 * f.n ≤ length o2)
-      budgets_room = (w.sizes.tasks.1, room_left o (0 ∷ f.n ∷ f.m ∷ f.charge ∷ P) with_periods (omega (arith, to_budgets)) (omega arith))
+      pub budgets_room : 4 + 4 * f.n + 4 * length (take f.n f.budgets) ≤ length o2
+      budgets_room = rw budgets_count (room_left o (0 ∷ f.n ∷ f.m ∷ f.charge ∷ P) with_periods (omega (arith, to_budgets)) (omega arith))
 
       module _ {o3 : List ℕ} (g : o3 ≡ over o2 (4 + 4 * f.n) B) where
         with_budgets : o3 ≡ over o 0 (0 ∷ f.n ∷ f.m ∷ f.charge ∷ (P ++ B))
@@ -67,8 +77,8 @@ module _ (f : Fields) (w : Within f) (o : List ℕ) where
         to_affinity : length (0 ∷ f.n ∷ f.m ∷ f.charge ∷ (P ++ B)) ≡ 4 + 8 * f.n
         to_affinity = omega (arith, length-append P B, periods_long, budgets_long)
 
-        pub affinity_room : (f.n ≤ 16) × (4 + 8 * f.n + f.n ≤ length o3)
-        affinity_room = (w.sizes.tasks.1, room_left o (0 ∷ f.n ∷ f.m ∷ f.charge ∷ (P ++ B)) with_budgets (omega (arith, to_affinity)) (omega arith))
+        pub affinity_room : 4 + 8 * f.n + length A ≤ length o3
+        affinity_room = rw affinity_count (room_left o (0 ∷ f.n ∷ f.m ∷ f.charge ∷ (P ++ B)) with_budgets (omega (arith, to_affinity)) (omega arith))
 
         module _ {o4 : List ℕ} (h : o4 ≡ over o3 (4 + 8 * f.n) A) where
           with_affinity : o4 ≡ over o 0 (new_bytes f)
@@ -91,8 +101,8 @@ module _ (f : Fields) (w : Within f) (o : List ℕ) where
     lead-two : leading_two ≡ over o 0 (f.n ∷ f.m ∷ [])
     lead-two = over-two o 0 f.n f.m (omega arith)
 
-    pub old_periods_room : (f.n ≤ 16) × (2 + 4 * f.n ≤ length leading_two)
-    old_periods_room = (w.sizes.tasks.1, room_left o (f.n ∷ f.m ∷ []) lead-two (omega arith) (omega arith))
+    pub old_periods_room : 2 + 4 * length (take f.n f.periods) ≤ length leading_two
+    old_periods_room = rw periods_count (room_left o (f.n ∷ f.m ∷ []) lead-two (omega arith) (omega arith))
 
     module _ {o2 : List ℕ} (e : o2 ≡ over leading_two 2 P) where
       old_periods : o2 ≡ over o 0 (f.n ∷ f.m ∷ P)
@@ -101,8 +111,8 @@ module _ (f : Fields) (w : Within f) (o : List ℕ) where
       old_to_budgets : length (f.n ∷ f.m ∷ P) ≡ 2 + 4 * f.n
       old_to_budgets = omega (arith, periods_long)
 
-      pub old_budgets_room : (f.n ≤ 16) × (2 + 4 * f.n + 4 * f.n ≤ length o2)
-      old_budgets_room = (w.sizes.tasks.1, room_left o (f.n ∷ f.m ∷ P) old_periods (omega (arith, old_to_budgets)) (omega arith))
+      pub old_budgets_room : 2 + 4 * f.n + 4 * length (take f.n f.budgets) ≤ length o2
+      old_budgets_room = rw budgets_count (room_left o (f.n ∷ f.m ∷ P) old_periods (omega (arith, old_to_budgets)) (omega arith))
 
       module _ {o3 : List ℕ} (g : o3 ≡ over o2 (2 + 4 * f.n) B) where
         old_budgets : o3 ≡ over o 0 (old_bytes f)

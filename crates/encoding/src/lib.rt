@@ -21,9 +21,9 @@ pub fn put_new(out: &mut [u8], f: Fields)
     let periods = f.periods;
     let budgets = f.budgets;
     let affinity = f.affinity;
-    packing::put_words(out, newform::LEAD, periods, n);
-    packing::put_words(out, newform::LEAD + 4 * n, budgets, n);
-    packing::put_bytes(out, newform::LEAD + 8 * n, affinity, n);
+    packing::put_words(out, newform::LEAD, &periods[..n]);
+    packing::put_words(out, newform::LEAD + 4 * n, &budgets[..n]);
+    packing::put_bytes(out, newform::LEAD + 8 * n, &affinity[..n]);
 }
 
 // The same in the old form, which has no place for charge and core bytes.
@@ -36,6 +36,6 @@ pub fn put_old(out: &mut [u8], f: Fields)
     out[1] = f.m as u8;
     let periods = f.periods;
     let budgets = f.budgets;
-    packing::put_words(out, oldform::LEAD, periods, n);
-    packing::put_words(out, oldform::LEAD + 4 * n, budgets, n);
+    packing::put_words(out, oldform::LEAD, &periods[..n]);
+    packing::put_words(out, oldform::LEAD + 4 * n, &budgets[..n]);
 }

@@ -5,7 +5,7 @@ use Rattle.numbers.specs.Rows.{entry}
 use Rattle.affinity.specs.Permitted.{allowed}
 use Rattle.refusal.specs.Tests.{refuse_if, refuse_at}
 use Rattle.refusal.specs.declared.Cause.TheVariants.{Placement, NotPermitted}
-use Rattle.refusal.specs.declared.Outcome.{Outcome}
+use Rattle.refusal.specs.Outcome.{Outcome}
 use Rattle.fields.specs.declared.Fields.{Fields}
 use Rattle.fields.specs.Fields.{affinity_at}
 

@@ -1,6 +1,6 @@
 -- The tests of a list report its refusals, and accept exactly an orderly one.
 use Prim.Native.Nat.{ℕ, suc, pred, ◌+◌, ◌≤◌, ◌<◌}
-use mathlib.Core.Path.{◌≡◌, refl, ◌∙◌, ap}
+use mathlib.Core.Path.{◌≡◌, refl, ◌∙◌}
 use mathlib.Core.Bool.{Bool, true, false}
 use mathlib.Core.List.{List, [], ◌∷◌}
 use mathlib.Core.Logic.{◌↔◌}
@@ -18,19 +18,11 @@ use Rattle.precedence.proofs.CircleLaws.{circular_exactly, path_task}
 use Rattle.precedence.proofs.WidthLaws.{reach_cong}
 use Rattle.relation.specs.Cells.{edge, Cells, with_pair}
 use Rattle.relation.proofs.CellLaws.{cells_none}
-use Rattle.pairs.specs.Pairs.{pair_count, feeding, fed, unfit, said_by, feeds}
+use Rattle.pairs.specs.Pairs.{pair_count, feeding, fed, said_by, feeds}
 use Rattle.pairs.specs.Fit.{PairFits, list_unformed, pair_unfit}
 use Rattle.pairs.proofs.FitLaws.{list_tested, unfit_exactly, not_unfit, feeds_exactly, fit_among}
 use Rattle.feeding.specs.Tests.{unfit_at, list_tests}
 use Rattle.feeding.specs.Limits.{Orderly, circle_there, list_conditions}
-
--- a pair's test is that of its tasks
-pub unfit-here : (n : ℕ) (periods list : List ℕ) (i : ℕ) {a b : ℕ} {r : Bool} → a ≡ feeding list i → b ≡ fed list i → r ≡ unfit n periods a b → r ≡ unfit_at n periods list i
-unfolding unfit_at
-unfit-here n periods list i p q e = rw (p, q) at e
-
-pub unfit-first : (n : ℕ) (periods list : List ℕ) {k x : ℕ} → k ≡ pair_count list → x ≡ first (unfit_at n periods list) k → x ≡ first (unfit_at n periods list) (pair_count list)
-unfit-first n periods list e q = q ∙ ap (first (unfit_at n periods list)) e
 
 -- ---- the tests in order
 
@@ -70,28 +62,24 @@ module _ (f : Fields) (list : List ℕ) where
 
 -- ---- the cells that the pairs make
 
--- The first i pairs are in the cells.
-pub record Gathering (list : List ℕ) (k : ℕ) (cells : List Bool) (i : ℕ) : Type 0 where
-  pub top : i ≤ k
-  pub is : Cells cells (said_by list i)
+module _ (list : List ℕ) where
+  -- of no pair,
+  pub gather_start : Cells (replicate 289 false) (said_by list 0)
+  unfolding said_by
+  gather_start = cells_none (said_by list 0) (λ a b. refl)
 
-pub gather_start : (list : List ℕ) (k : ℕ) → Gathering list k (replicate 289 false) 0
-unfolding said_by
-gather_start list k = record { top = omega arith; is = cells_none (said_by list 0) (λ a b. refl) }
+  -- of one pair more than the first i,
+  pub gather_next : (i : ℕ) {cells next : List Bool} {a b : ℕ} → Cells cells (said_by list i) → a ≡ feeding list i → b ≡ fed list i
+      → Cells next (with_pair (edge cells) a b) → Cells next (said_by list (i + 1))
+  unfolding said_by with_pair
+  gather_next i s p q w =
+      let one : i + 1 ≡ suc i = omega arith in
+      rw one (record { size = w.size; at = λ x y u v. w.at x y u v ∙ rw (s.at x y u v, p, q) })
 
-pub gather_next : {list : List ℕ} {k : ℕ} {cells next : List Bool} {i a b : ℕ} → Gathering list k cells i → i < k → a ≡ feeding list i → b ≡ fed list i
-    → Cells next (with_pair (edge cells) a b) → Gathering list k next (i + 1)
-unfolding said_by with_pair
-gather_next {list} {k} {cells} {next} {i} s h p q w =
-    let one : i + 1 ≡ suc i = omega arith in
-    record {
-      top = omega arith;
-      is = rw one (record { size = w.size; at = λ x y u v. w.at x y u v ∙ rw (s.is.at x y u v, p, q) });
-    }
-
-pub gather_done : {list : List ℕ} {k : ℕ} {cells : List Bool} {i : ℕ} → Gathering list k cells i → k ≡ pair_count list → k ≤ i → Cells cells (feeds list)
-unfolding feeds
-gather_done {list} {k} {i = i} s e h = let d : i ≡ pair_count list = omega (arith, s.top) in rw d at s.is
+  -- and of all
+  pub gather_done : (i : ℕ) {cells : List Bool} → Cells cells (said_by list i) → i ≡ pair_count list → Cells cells (feeds list)
+  unfolding feeds
+  gather_done i s e = rw e at s
 
 -- the lowest task on a circle of the cells is that of the pairs
 pub circle_same : (list : List ℕ) (n : ℕ) {cells : List Bool} {x : ℕ} → n ≤ 16 → Cells cells (feeds list) → x ≡ first (circular (edge cells) n) n → x ≡ first (circular (feeds list) n) n

@@ -3,7 +3,7 @@ use Rattle.std.specs.Prelude.{ℕ, Bool, List, [], ◌∷◌}
 use Rattle.numbers.specs.First.{first}
 use Rattle.refusal.specs.Tests.{refuse_at}
 use Rattle.refusal.specs.declared.Cause.TheVariants.{Pair, Circle}
-use Rattle.refusal.specs.declared.Outcome.{Outcome}
+use Rattle.refusal.specs.Outcome.{Outcome}
 use Rattle.fields.specs.declared.Fields.{Fields}
 use Rattle.precedence.specs.Circles.{circular}
 use Rattle.pairs.specs.Pairs.{pair_count, feeding, fed, unfit, feeds, list_test}

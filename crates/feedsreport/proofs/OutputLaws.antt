@@ -1,4 +1,5 @@
 -- The whole output is the one that the definition gives, and it is what is promised.
+use Rattle.std.specs.Prelude.{Ok, Err}
 use Prim.Native.Nat.{ℕ, ◌-◌, ◌≤◌, ◌<◌}
 use mathlib.Core.Path.{◌≡◌, refl, ◌∙◌, ap, subst}
 use mathlib.Core.List.{List, []}
@@ -8,8 +9,7 @@ use native.Mathlib.Omega.{arith}
 use Rattle.refusal.specs.Conditions.{First}
 use Rattle.refusal.specs.Tests.{by_outcome}
 use Rattle.refusal.specs.declared.Cause.{Cause}
-use Rattle.refusal.specs.declared.Outcome.{Outcome}
-use Rattle.refusal.specs.declared.Outcome.TheVariants.{Accepted, Refused}
+use Rattle.refusal.specs.Outcome.{Outcome}
 use Rattle.refusal.proofs.TestLaws.{by_accepted}
 use Rattle.taskset.specs.Table.{Table, Sound}
 use Rattle.taskset.proofs.TableLaws.{table_accepts}
@@ -39,7 +39,7 @@ module _ (t : Table) (list : List ℕ) where
   abbrev line : List ℕ
   line = order_line t.fields.n (order_for list t.fields).order
 
-  accepted_is : (fed_by t list).outcome ≡ Accepted → order_of t list ≡ order_for list t.fields
+  accepted_is : (fed_by t list).outcome ≡ Ok tt → order_of t list ≡ order_for list t.fields
   unfolding order_of order_by
   accepted_is e = by_accepted refused_order (order_for list) t.fields e
 
@@ -52,11 +52,11 @@ module _ (t : Table) (list : List ℕ) where
 -- ---- from the answer to the output: the steps of `order_report`
 
 module _ (t : Table) (list : List ℕ) {r : TaskOrder} (a : r ≡ order_of t list) {o : Outcome} (q : r.outcome ≡ o) {x : List ℕ} where
-  pub output_refused : {cause : Cause} → o ≡ Refused cause → x ≡ printed o [] → x ≡ order_output_of t list
+  pub output_refused : {cause : Cause} → o ≡ Err cause → x ≡ printed o [] → x ≡ order_output_of t list
   unfolding order_output_of printed by_outcome
   output_refused h p = rw (← a, q, h) (p ∙ rw h)
 
-  output_ordered : {n : ℕ} → o ≡ Accepted → n ≡ t.fields.n → x ≡ order_line n r.order → x ≡ order_output_of t list
+  output_ordered : {n : ℕ} → o ≡ Ok tt → n ≡ t.fields.n → x ≡ order_line n r.order → x ≡ order_output_of t list
   unfolding order_output_of printed by_outcome
   output_ordered h e p = p ∙ rw (← a, q, h, e)
 
@@ -66,7 +66,7 @@ module _ (table list : List ℕ) {b n : ℕ} (e : b ≡ get_or table 1 0) (p : (
   unfolding new new_fields
   tasks_are = p.0 ∙ e
 
-  module _ {r : TaskOrder} (w : Promise (new table) list r) {o : Outcome} (q : r.outcome ≡ o) (h : o ≡ Accepted) where
+  module _ {r : TaskOrder} (w : Promise (new table) list r) {o : Outcome} (q : r.outcome ≡ o) (h : o ≡ Ok tt) where
     tasks_within : (1 ≤ n) × (n ≤ 16)
     tasks_within = let v = w.accepted.0 (rw (q, h)) in rw tasks_are ((new_sound table).within v.0).sizes.tasks
 
@@ -76,7 +76,7 @@ module _ (table list : List ℕ) {b n : ℕ} (e : b ≡ get_or table 1 0) (p : (
     pub tasks_few : n ≤ 16
     tasks_few = tasks_within.1
 
-  pub output_tasks : {r : TaskOrder} → r ≡ order_of (new table) list → {o : Outcome} → r.outcome ≡ o → o ≡ Accepted → {x : List ℕ} → x ≡ order_line n r.order → x ≡ order_output_of (new table) list
+  pub output_tasks : {r : TaskOrder} → r ≡ order_of (new table) list → {o : Outcome} → r.outcome ≡ o → o ≡ Ok tt → {x : List ℕ} → x ≡ order_line n r.order → x ≡ order_output_of (new table) list
   output_tasks a q h = output_ordered (new table) list a q h tasks_are
 
 -- ---- what is promised

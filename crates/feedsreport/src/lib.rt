@@ -9,7 +9,6 @@ ghost use Rattle.feedsreport.specs.Output.{order_line, order_output_of, feeds_ou
 ghost use Rattle.feedsreport.specs.Reported.{Reported, FeedsReadBack};
 
 use fields::MOST_TASKS;
-use refusal::Outcome;
 use text::Text;
 
 // Where the table ends: behind as many tasks as byte 1 says; at the end of the input if that is no number of tasks or there are fewer bytes.
@@ -25,13 +24,14 @@ fn table_end(input: &[u8]) -> usize
     end
 }
 
-// The line of an order: the first `n` task numbers of its row.
+// The line of an order: the first `n` task numbers of its row. A row and a number and not a slice: its edit
+// `zeros_behind_the_tasks_throughout` holds the range, and `order_line` in specs/ is of both.
 fn order_line(order: [u8; 16], n: usize) -> Text
     requires { (1 ≤ n) × (n ≤ 16) }
     ensures { shown result ≡ order_line n order }
 {
     let nothing = text::empty();
-    let first = decimal::append_decimal(nothing, order[0] as u64);
+    let first = decimal::append_decimal(nothing, u64::from(order[0]));
     let tasks = decimal::append_numbers(first, &order[1..n]);
     text::append_bytes(tasks, b"\n")
 }
@@ -42,7 +42,7 @@ fn order_report(table: &[u8], list: &[u8]) -> Text
 {
     let answer = dependencies::check_dependencies(table, list);
     let outcome = answer.outcome;
-    let Outcome::Accepted = outcome else {
+    let Ok(()) = outcome else {
         return listing::refusal_report(outcome);
     };
     let order = answer.order;

@@ -5,7 +5,7 @@ use Rattle.numbers.specs.First.{first}
 use Rattle.affinity.specs.Permitted.{unfit}
 use Rattle.refusal.specs.Tests.{refuse_if, refuse_at, in_order}
 use Rattle.refusal.specs.declared.Cause.TheVariants.{TaskCount, CoreCount, Period, Budget, Hyperperiod, Charge, Cost, Affinity}
-use Rattle.refusal.specs.declared.Outcome.{Outcome}
+use Rattle.refusal.specs.Outcome.{Outcome}
 use Rattle.fields.specs.Most.{most_tasks, most_cores, most_charge, longest_period, most_multiple}
 use Rattle.fields.specs.Fields.{period_at, budget_at, cost_at, affinity_at}
 use Rattle.fields.specs.Hyperperiod.{multiple_to}

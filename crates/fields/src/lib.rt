@@ -5,7 +5,7 @@ ghost use Rattle.std.specs.Prelude.{◌≡◌};
 ghost use Rattle.refusal.specs.Tests.{in_order};
 ghost use Rattle.fields.specs.Tests.{tasks_test, cores_test, size_tests, charge_test, row_test};
 
-use refusal::{Cause, Outcome};
+use refusal::Cause;
 
 // The paper's limits: at most so many tasks, cores, and ticks of charge, the longest period, and the greatest common multiple of the
 // periods that is accepted.
@@ -34,7 +34,7 @@ pub struct Fields {
 }
 
 // Number 2.
-fn tasks_test(f: Fields) -> Outcome
+fn tasks_test(f: Fields) -> Result<(), Cause>
     ensures { result ≡ tasks_test f }
 {
     refusal::refuse_if(
@@ -44,7 +44,7 @@ fn tasks_test(f: Fields) -> Outcome
 }
 
 // Number 3.
-fn cores_test(f: Fields) -> Outcome
+fn cores_test(f: Fields) -> Result<(), Cause>
     ensures { result ≡ cores_test f }
 {
     refusal::refuse_if(
@@ -54,23 +54,22 @@ fn cores_test(f: Fields) -> Outcome
 }
 
 // The tests of the sizes: numbers 2 and 3.
-pub fn size_tests(f: Fields) -> Outcome
+pub fn size_tests(f: Fields) -> Result<(), Cause>
     ensures { result ≡ in_order (size_tests f) }
 {
-    let tasks = tasks_test(f);
-    let cores = cores_test(f);
-    refusal::then(tasks, cores)
+    tasks_test(f)?;
+    cores_test(f)
 }
 
 // Number 13.
-pub fn charge_test(f: Fields) -> Outcome
+pub fn charge_test(f: Fields) -> Result<(), Cause>
     ensures { result ≡ charge_test f }
 {
     refusal::refuse_if(MOST_CHARGE < f.charge, Cause::Charge)
 }
 
 // Number 15: the row of core bytes has another length than n,
-pub fn row_test(f: Fields) -> Outcome
+pub fn row_test(f: Fields) -> Result<(), Cause>
     ensures { result ≡ row_test f }
 {
     refusal::refuse_if(f.given != f.n, Cause::Affinity(0))

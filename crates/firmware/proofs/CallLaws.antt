@@ -1,4 +1,5 @@
 -- The firmware's call: its tests decide, and the promise at each end of the program.
+use Rattle.std.specs.Prelude.{Ok, Err}
 use Prim.Native.Nat.{ℕ, ◌+◌, ◌≤◌, ◌<◌}
 use mathlib.Core.Path.{◌≡◌, refl, sym, ◌∙◌, ap}
 use mathlib.Core.List.{List, ◌++◌}
@@ -13,8 +14,7 @@ use Rattle.refusal.specs.Causes.{number_of, place_of, number_in}
 use Rattle.refusal.specs.Tests.{◌then◌, room_test}
 use Rattle.refusal.specs.declared.Cause.{Cause}
 use Rattle.refusal.specs.declared.Cause.TheVariants.{Buffer}
-use Rattle.refusal.specs.declared.Outcome.{Outcome}
-use Rattle.refusal.specs.declared.Outcome.TheVariants as outcome
+use Rattle.refusal.specs.Outcome.{Outcome}
 use Rattle.refusal.proofs.CauseLaws.{number_range}
 use Rattle.refusal.proofs.TestLaws.{accepted≢refused, outcome_cases, then_accepted, by_accepted, by_refused}
 use Rattle.refusal.proofs.ConditionLaws.{none_first, first-given}
@@ -44,7 +44,7 @@ pub called_sound : (s : List ℕ) (room : ℕ) → Sound (called s room)
 called_sound s room = buffer_sound (new_sound s) room
 
 -- a verdict that is no refusal has a code of at most 2: 2 for spent, and else 0 for all
-code_planned : (v : Verdict) → verdict_outcome v ≡ outcome.Accepted → code_of v ≤ 2
+code_planned : (v : Verdict) → verdict_outcome v ≡ Ok tt → code_of v ≤ 2
 unfolding verdict_outcome
 code_planned All e = omega arith
 code_planned Short e = omega arith
@@ -79,7 +79,7 @@ placement_long f limit = length-row 0 f.n _
 
 module _ (t : Table) (limit : ℕ) (buffer : List ℕ) where
   -- of a refused call,
-  module _ {c : Cause} (q : t.outcome ≡ outcome.Refused c) where
+  module _ {c : Cause} (q : t.outcome ≡ Err c) where
     code_refused_is : code_for t limit ≡ code_of (Refused c)
     unfolding code_for refused_plan
     code_refused_is = ap (λ a. code_of a.verdict) (plan_refused_is t limit q)
@@ -89,7 +89,7 @@ module _ (t : Table) (limit : ℕ) (buffer : List ℕ) where
     buffer_refused_is = by_refused _ _ t.fields q
 
   -- and of an accepted one
-  module _ (q : t.outcome ≡ outcome.Accepted) where
+  module _ (q : t.outcome ≡ Ok tt) where
     pub code_accepted_is : code_for t limit ≡ code_of (plan_for t.fields limit).verdict
     unfolding code_for
     code_accepted_is = ap (λ a. code_of a.verdict) (plan_accepted_is t limit q)
@@ -114,7 +114,7 @@ module _ (s : List ℕ) (room : ℕ) {g : Reading} (e : g ≡ reading_of (new s)
   same = also_read (new s) e tests both
 
   -- what an accepted call is given: a checked task set, and room for its n core numbers
-  module _ (q : o ≡ outcome.Accepted) where
+  module _ (q : o ≡ Ok tt) where
     pub call_checked : Reads g → Checked g.tasks
     call_checked r = r.checked (then_accepted _ _ (sym p ∙ q)).0
 
@@ -135,10 +135,10 @@ module _ (s : List ℕ) (limit : ℕ) (buffer : List ℕ) {g : Reading} (e : g �
   outcome_is : o ≡ t.outcome
   outcome_is = same s (length buffer) e f p
 
-  pub call_refused : {c : Cause} {code : ℕ} → o ≡ outcome.Refused c → code ≡ code_of (Refused c) → (code ≡ code_for t limit) × (buffer ≡ buffer_after t limit buffer)
+  pub call_refused : {c : Cause} {code : ℕ} → o ≡ Err c → code ≡ code_of (Refused c) → (code ≡ code_for t limit) × (buffer ≡ buffer_after t limit buffer)
   call_refused q h = (h ∙ sym (code_refused_is t limit buffer (sym outcome_is ∙ q)), sym (buffer_refused_is t limit buffer (sym outcome_is ∙ q)))
 
-  pub call_planned : o ≡ outcome.Accepted → {r : Allocation} → r ≡ plan_for g.tasks.fields limit → {code : ℕ} {after : List ℕ} → code ≡ code_of r.verdict
+  pub call_planned : o ≡ Ok tt → {r : Allocation} → r ≡ plan_for g.tasks.fields limit → {code : ℕ} {after : List ℕ} → code ≡ code_of r.verdict
       → after ≡ over buffer 0 (take g.tasks.fields.n r.placement) → (code ≡ code_for t limit) × (after ≡ buffer_after t limit buffer)
   call_planned q {r} w h x =
       let is : g.tasks.fields ≡ t.fields = fields_are s (length buffer) e f p q in
@@ -155,7 +155,7 @@ module _ (s : List ℕ) (limit : ℕ) (buffer : List ℕ) {g : Reading} (e : g �
 
 module _ {t : Table} (s : Sound t) (limit : ℕ) (buffer : List ℕ) where
   -- of a refused call,
-  refused_answers : (c : Cause) → t.outcome ≡ outcome.Refused c → Answers t buffer (code_of (Refused c)) buffer
+  refused_answers : (c : Cause) → t.outcome ≡ Err c → Answers t buffer (code_of (Refused c)) buffer
   refused_answers c q = record {
     accepted = (λ g. absurd (omega arith), λ v. absurd (accepted≢refused ((table_accepts s).1 v) q));
     refused = λ k. (
@@ -166,7 +166,7 @@ module _ {t : Table} (s : Sound t) (limit : ℕ) (buffer : List ℕ) where
   }
 
   -- and of an accepted one
-  module _ (q : t.outcome ≡ outcome.Accepted) where
+  module _ (q : t.outcome ≡ Ok tt) where
     plan : Allocation
     plan = plan_for t.fields limit
 

@@ -6,7 +6,7 @@ ghost use Rattle.firmware.specs.Call.{called, code_of, code_for, buffer_after};
 ghost use Rattle.firmware.specs.Service.{Answers, Keeps};
 
 use planner::Verdict;
-use refusal::{Cause, Outcome};
+use refusal::Cause;
 
 // The number that the firmware is given for a verdict.
 fn code(verdict: Verdict) -> u32
@@ -31,11 +31,11 @@ fn plan_into(table: &[u8], limit: u32, plan: &mut [u8]) -> u32
     let fits = refusal::room_test(Cause::Buffer, n, plan.len());
     let outcome = refusal::then(read, fits);
     match outcome {
-        Outcome::Refused(cause) => code(Verdict::Refused(cause)),
-        Outcome::Accepted => {
+        Err(cause) => code(Verdict::Refused(cause)),
+        Ok(()) => {
             let answer = planner::plan_tasks(reading.tasks, limit);
             let cores = answer.placement;
-            packing::put_bytes(plan, 0, cores, n);
+            packing::put_bytes(plan, 0, &cores[..n]);
             let verdict = answer.verdict;
             code(verdict)
         }

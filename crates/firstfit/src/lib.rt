@@ -14,14 +14,7 @@ fn lowest_core(loads: [u32; 4], byte: u8, d: u32, m: usize, h: u32) -> usize
     requires { (m ≤ 4) × (d ≤ h) }
     ensures { result ≡ first (holds loads byte d h) m }
 {
-    let mut k = 0;
-    while k < m {
-        if branch::has_room(byte, k as u32, loads[k], d, h) {
-            return k + 1;
-        }
-        k += 1;
-    }
-    0
+    numbers::first(m, |k| branch::has_room(byte, k as u32, loads[k], d, h)).unwrap_or(0)
 }
 
 // First fit of n demands, with their tasks' core bytes, on m cores and the hyperperiod h: a step for each task, and none taken back.
@@ -32,17 +25,15 @@ pub fn first_fit(demands: [u32; 16], affinity: [u8; 16], n: usize, m: usize, h: 
     let mut placement = [0u8; 16];
     let mut loads = [0u32; 4];
     let mut rejected = 0u32;
-    let mut k = 0;
-    while k < n {
+    for k in 0..n {
         let d = demands[k];
         let core = lowest_core(loads, affinity[k], d, m, h);
         let choice = core as u32;
         let more = blend::with_more(loads, choice, d);
-        let next = numbers::with_byte(placement, k, core as u8);
-        rejected += blend::pick(choice, 0, d, 0);
+        let next = numbers::with_entry(placement, k, core as u8);
+        rejected += blend::pick(choice == 0, d, 0);
         loads = more;
         placement = next;
-        k += 1;
     }
     Found {
         placement,

@@ -1,4 +1,5 @@
 -- The tests of a form are those of its limits and refusals, whatever its leading bytes and its size.
+use Rattle.std.specs.Prelude.{Ok}
 use Prim.Native.Nat.{ℕ, ◌≤◌}
 use mathlib.Core.Path.{◌≡◌, refl, sym, ◌∙◌}
 use mathlib.Core.List.{List, [], ◌∷◌, ◌++◌}
@@ -7,8 +8,7 @@ use native.Mathlib.Omega.{arith}
 use Rattle.numbers.proofs.BoundLaws.{less_exactly, not_less, unequal_exactly, not_unequal}
 use Rattle.refusal.specs.Conditions.{Condition, Tested}
 use Rattle.refusal.specs.declared.Cause.TheVariants.{TooShort, Length}
-use Rattle.refusal.specs.declared.Outcome.{Outcome}
-use Rattle.refusal.specs.declared.Outcome.TheVariants.{Accepted}
+use Rattle.refusal.specs.Outcome.{Outcome}
 use Rattle.refusal.proofs.ConditionLaws.{join, one-tested}
 use Rattle.refusal.proofs.TestLaws.{then_accepted}
 use Rattle.taskset.specs.Reading.{reading_by}
@@ -33,7 +33,7 @@ module _ {Front : Type 0} {cs : List Condition} {front : Outcome} (t : Tested Fr
   form_tested = after-tested f (λ v. v.0.1) shape_tested
 
 -- The steps of a reader.
-pub shape_says : (front : Outcome) (size : ℕ) (s : List ℕ) (f : Fields) {o : Outcome} → o ≡ shape_outcome front size s f → o ≡ Accepted → Sized f
+pub shape_says : (front : Outcome) (size : ℕ) (s : List ℕ) (f : Fields) {o : Outcome} → o ≡ shape_outcome front size s f → o ≡ Ok tt → Sized f
 unfolding shape_outcome
 shape_says front size s f p q = sizes_say f refl (then_accepted front _ (then_accepted _ _ (sym p ∙ q)).0).1
 

@@ -1,8 +1,7 @@
 -- Where a stored form has the fields of a table, and what is promised of their reading.
-use Rattle.std.specs.Prelude.{ℕ, ◌+◌, ◌*◌, ◌≤◌, ◌<◌, ◌≡◌, List, get_or}
+use Rattle.std.specs.Prelude.{ℕ, ◌+◌, ◌*◌, ◌≤◌, ◌<◌, ◌≡◌, List, get_or, Ok}
 use Rattle.numbers.specs.Rows.{row}
 use Rattle.wire.specs.Bytes.{le32, word_at}
-use Rattle.refusal.specs.declared.Outcome.TheVariants.{Accepted}
 use Rattle.fields.specs.Fields.{period_at, budget_at, affinity_at}
 use Rattle.fields.specs.declared.Fields.{Fields}
 use Rattle.taskset.specs.declared.Reading.{Reading}
@@ -36,5 +35,5 @@ pub record Bounded (f : Fields) : Type 0 where
 
 -- What is promised of an accepted reading of these bytes: they are its fields in this form, and its entries beyond n are 0.
 pub record ReadsIn (Form : Fields → List ℕ → Type 0) (s : List ℕ) (r : Reading) : Type 0 where
-  pub form : r.outcome ≡ Accepted → Form r.tasks.fields s
-  pub beyond : r.outcome ≡ Accepted → Bounded r.tasks.fields
+  pub form : r.outcome ≡ Ok tt → Form r.tasks.fields s
+  pub beyond : r.outcome ≡ Ok tt → Bounded r.tasks.fields

@@ -3,7 +3,7 @@ use Rattle.std.specs.Prelude.{ℕ, ◌<◌, List, not, ◌≢◌, ltb, eqb, leng
 use Rattle.refusal.specs.Tests.{◌then◌, refuse_if, in_order}
 use Rattle.refusal.specs.Conditions.{Condition, only}
 use Rattle.refusal.specs.declared.Cause.TheVariants.{TooShort, Length}
-use Rattle.refusal.specs.declared.Outcome.{Outcome}
+use Rattle.refusal.specs.Outcome.{Outcome}
 use Rattle.fields.specs.Tests.{size_tests, limit_tests}
 use Rattle.fields.specs.declared.Fields.{Fields}
 

@@ -2,13 +2,12 @@
 #![tactic(auto)]
 
 ghost use Rattle.std.specs.Prelude.{◌≡◌, ◌≤◌};
-ghost use Rattle.refusal.specs.declared.Outcome.TheVariants.{Accepted};
 ghost use Rattle.taskset.specs.Reading.{reading_by};
 ghost use Rattle.form.specs.Layout.{fields_at};
 ghost use Rattle.form.specs.Shape.{short_test, length_test, shape_outcome, form_outcome};
 
 use fields::{Fields, MOST_TASKS};
-use refusal::{Cause, Outcome};
+use refusal::Cause;
 use taskset::Reading;
 
 // The fields of a table with n at `at` and m behind it, whose periods and budgets stand behind `lead` bytes; with a charge, and sixteen
@@ -29,42 +28,41 @@ pub fn decode(
     let periods = rows::words(s, lead, n);
     let budgets = rows::words(s, lead + 4 * n, n);
     Fields {
-        n: n,
-        m: m,
-        periods: periods,
-        budgets: budgets,
-        charge: charge,
-        affinity: affinity,
-        given: given,
+        n,
+        m,
+        periods,
+        budgets,
+        charge,
+        affinity,
+        given,
     }
 }
 
 // Number 1.
-pub fn short_test(s: &[u8], lead: usize) -> Outcome
+pub fn short_test(s: &[u8], lead: usize) -> Result<(), Cause>
     ensures { result ≡ short_test lead s.now }
 {
     refusal::refuse_if(s.len() < lead, Cause::TooShort)
 }
 
 // Number 4.
-fn length_test(s: &[u8], size: usize) -> Outcome
+fn length_test(s: &[u8], size: usize) -> Result<(), Cause>
     ensures { result ≡ length_test size s.now }
 {
     refusal::refuse_if(s.len() != size, Cause::Length)
 }
 
 // The tests of the leading bytes, the sizes of the fields, number 4.
-pub fn shape_tests(front: Outcome, s: &[u8], size: usize, f: Fields) -> Outcome
+pub fn shape_tests(front: Result<(), Cause>, s: &[u8], size: usize, f: Fields) -> Result<(), Cause>
     ensures { result ≡ shape_outcome front size s.now f }
 {
-    let sizes = fields::size_tests(f);
-    let exact = length_test(s, size);
-    let first = refusal::then(front, sizes);
-    refusal::then(first, exact)
+    front?;
+    fields::size_tests(f)?;
+    length_test(s, size)
 }
 
 // Reads a table of this size after the tests of its leading bytes: its task set, or the first cause of refusal.
-pub fn read(front: Outcome, s: &[u8], size: usize, f: Fields) -> Reading
+pub fn read(front: Result<(), Cause>, s: &[u8], size: usize, f: Fields) -> Reading
     ensures { result ≡ reading_by (form_outcome front size s.now f) f }
 {
     let shape = shape_tests(front, s, size, f);

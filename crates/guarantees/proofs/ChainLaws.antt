@@ -1,4 +1,5 @@
 -- The cores of every plan can be started, and each placed task is served; and what the quick plan promises.
+use Rattle.std.specs.Prelude.{Ok}
 use Prim.Native.Nat.{ℕ, ◌+◌, ◌≤◌, ◌<◌}
 use mathlib.Core.Path.{◌≡◌, refl, ◌∙◌}
 use mathlib.Core.List.{List}
@@ -6,7 +7,6 @@ use lib.ListN.{length}
 use lib.Seq.{get_or-take}
 use Rattle.numbers.specs.Rows.{entry}
 use Rattle.numbers.proofs.RowLaws.{length-tab}
-use Rattle.refusal.specs.declared.Outcome.TheVariants.{Accepted}
 use Rattle.refusal.proofs.ConditionLaws.{no_number}
 use Rattle.taskset.specs.Demands.{demand_of}
 use Rattle.taskset.specs.Table.{Table, Sound}
@@ -44,7 +44,7 @@ module _ {t : Table} (s : Sound t) (plan : Plan) (v : t.Valid) where
     permits = λ k h i. rw (taken k h) (promise.permitted k h (rw (taken k h) at i));
   }
 
-  starts_each : (core : ℕ) → 1 ≤ core → core ≤ t.fields.m → (start_of t (placement_of t plan) core).outcome ≡ Accepted
+  starts_each : (core : ℕ) → 1 ≤ core → core ≤ t.fields.m → (start_of t (placement_of t plan) core).outcome ≡ Ok tt
   starts_each core least most = no_number _ (((demand-three s).accepted (placement_of t plan) core v valid_placement least most).1 (promise.loads core least most)).0
 
   served_each : (ticks : List (List ℕ)) (k p : ℕ) → k < t.fields.n → 1 ≤ entry (placement_of t plan) k

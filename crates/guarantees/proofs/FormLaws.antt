@@ -1,10 +1,10 @@
 -- What W7 asks of the two stored forms holds.
+use Rattle.std.specs.Prelude.{Ok}
 use Prim.Native.Nat.{ℕ, ◌≤◌}
 use mathlib.Core.Path.{◌≡◌, refl, sym, ◌∙◌, ap, ap₂}
 use mathlib.Core.List.{List, [], ◌++◌}
 use lib.ListN.{length, take, drop}
 use Rattle.refusal.specs.declared.Cause.TheVariants.{Buffer}
-use Rattle.refusal.specs.declared.Outcome.TheVariants.{Accepted}
 use Rattle.taskset.specs.Table.{Table, reading_of}
 use Rattle.fields.specs.declared.Fields.{Fields}
 use Rattle.taskset.proofs.TableLaws.{table_accepts, read_outcome, read_fields, answers_alike}
@@ -53,7 +53,7 @@ module _ (s out : List ℕ) (moved : MovesOn s out) where
   valid : (alone s).Valid
   valid = call_valid Buffer refl (moving s) out refl refl moved.accepted
 
-  well : (reading_of (alone s)).outcome ≡ Accepted
+  well : (reading_of (alone s)).outcome ≡ Ok tt
   well = read_outcome (alone s) refl ∙ (table_accepts (alone_sound s)).1 valid
 
   valid_on : (new (new_in s out)).Valid
@@ -64,7 +64,7 @@ module _ (s out : List ℕ) (moved : MovesOn s out) where
 
   -- the firmware's call, where its buffer has room
   module _ (room : ℕ) (h : (alone s).fields.n ≤ room) where
-    call_on : (called (new_in s out) room).outcome ≡ Accepted
+    call_on : (called (new_in s out) room).outcome ≡ Ok tt
     call_on = (table_accepts (called_sound (new_in s out) room)).1 (valid_on, rw fields-on h)
 
     plan_on : (limit : ℕ) → plan_for (new (new_in s out)).fields limit ≡ plan_of (alone s) limit

@@ -1,11 +1,11 @@
 -- The run log keeps what is demanded of it.
+use Rattle.std.specs.Prelude.{Ok}
 use Prim.Native.Nat.{ℕ, ◌≤◌}
 use mathlib.Core.Path.{◌≡◌, refl, sym, ◌∙◌, ap}
 use mathlib.Core.List.{List, ◌++◌, append-nil}
 use native.Mathlib.Omega.{arith}
 use lib.ListN.{length, drop, drop_of_length-le}
 use Rattle.refusal.specs.Causes.{number_in}
-use Rattle.refusal.specs.declared.Outcome.TheVariants.{Accepted}
 use Rattle.refusal.proofs.ConditionLaws.{no_number}
 use Rattle.runs.specs.declared.Run.{Run}
 use Rattle.runs.specs.Runs.{runs, expand}
@@ -23,13 +23,13 @@ use Rattle.guarantees.specs.Logging.{write_number, expand_number, needed_of, Log
 -- ---- there and back
 
 module _ (answers : List ℕ) (records : List Run) (bytes : List ℕ) (z : write_number answers records ≡ 0) (e : length bytes ≡ length answers) where
-  wrote : write_outcome answers (length records) ≡ Accepted
+  wrote : write_outcome answers (length records) ≡ Ok tt
   wrote = sym (write_said answers (length records)) ∙ no_number _ z
 
   front : needed_of answers records ≡ runs answers
   front = log_front answers records wrote
 
-  expanded : expand_outcome (runs answers) (length bytes) ≡ Accepted
+  expanded : expand_outcome (runs answers) (length bytes) ≡ Ok tt
   expanded =
       let w = writable answers (length records) wrote in
       expand_accepts (runs answers) (length bytes) (runs-all_fit answers (all_low answers w.low) w.few) (total_runs 0 answers ∙ sym e)
@@ -43,7 +43,7 @@ module _ (answers : List ℕ) (records : List Run) (bytes : List ℕ) (z : write
 -- ---- the other way round
 
 module _ (records : List Run) (bytes : List ℕ) (row : List Run) (z : expand_number records bytes ≡ 0) (e : length row ≡ length records) where
-  filled : expand_outcome records (length bytes) ≡ Accepted
+  filled : expand_outcome records (length bytes) ≡ Ok tt
   filled = sym (expand_said records (length bytes)) ∙ no_number _ z
 
   there : row_after records bytes ≡ expand records
@@ -52,7 +52,7 @@ module _ (records : List Run) (bytes : List ℕ) (row : List Run) (z : expand_nu
   again : runs (expand records) ≡ records
   again = runs-expand records (expand_accepted records (length bytes) filled).0
 
-  written : write_outcome (expand records) (length row) ≡ Accepted
+  written : write_outcome (expand records) (length row) ≡ Ok tt
   written =
       let fit = (expand_accepted records (length bytes) filled).0 in
       let n = runs-needed (expand records) in

@@ -1,7 +1,6 @@
 -- From a plan to the ticks: the cores of every plan can be started, and each placed task is served.
-use Rattle.std.specs.Prelude.{ℕ, ◌+◌, ◌≤◌, ◌<◌, ◌≡◌, List, length}
+use Rattle.std.specs.Prelude.{ℕ, ◌+◌, ◌≤◌, ◌<◌, ◌≡◌, List, length, Ok}
 use Rattle.numbers.specs.Rows.{entry}
-use Rattle.refusal.specs.declared.Outcome.TheVariants.{Accepted}
 use Rattle.taskset.specs.Demands.{load_on}
 use Rattle.taskset.specs.Table.{Table}
 use Rattle.plans.specs.Safe.{choices_of}
@@ -46,7 +45,7 @@ answers_of t plan k ticks = ticked (record_of t plan k).charge (record_of t plan
 -- For every valid table and every plan of it, spent or not:
 pub record Chain (t : Table) : Type 0 where
   -- each core of its placement is accepted as a fresh core,
-  pub starts : (plan : Plan) (core : ℕ) → t.Valid → 1 ≤ core → core ≤ t.fields.m → (start_of t (placement_of t plan) core).outcome ≡ Accepted
+  pub starts : (plan : Plan) (core : ℕ) → t.Valid → 1 ≤ core → core ≤ t.fields.m → (start_of t (placement_of t plan) core).outcome ≡ Ok tt
   -- so that every task that is placed receives in every complete period exactly what it asked for, up to its time, and the charge if it asked for any,
   pub served : (plan : Plan) → t.Valid → (ticks : List (List ℕ)) (k p : ℕ) → k < t.fields.n → 1 ≤ entry (placement_of t plan) k
       → period_start (tasks_of t plan) k (p + 1) ≤ length ticks → received_in (tasks_of t plan) (answers_of t plan k ticks) k p ≡ owed_in (tasks_of t plan) ticks k p

@@ -1,12 +1,11 @@
 -- The three demands over the definitions that the public contracts equal, each for a table t as a call is given it: `DemandOne t` and so on hold of
 -- every sound table, and tables in either stored form are sound (`SoundForms`). A promise that stands below is cited, not told again.
-use Rattle.std.specs.Prelude.{ℕ, ◌+◌, ◌*◌, ◌/◌, ◌≤◌, ◌<◌, min, ◌≡◌, true, List, ◌++◌, ◌↔◌, ◌≢◌, length}
+use Rattle.std.specs.Prelude.{ℕ, ◌+◌, ◌*◌, ◌/◌, ◌≤◌, ◌<◌, min, ◌≡◌, true, List, ◌++◌, ◌↔◌, ◌≢◌, length, Ok}
 use Rattle.numbers.specs.Rows.{entry}
 use Rattle.numbers.specs.Sums.{sum_from_one, product_from_one}
 use Rattle.affinity.specs.Permitted.{permitted, every_core}
 use Rattle.refusal.specs.Causes.{number_in}
 use Rattle.refusal.specs.Conditions.{First, Fails, Gives, Decides}
-use Rattle.refusal.specs.declared.Outcome.TheVariants.{Accepted}
 use Rattle.fields.specs.Fields.{period_at, budget_at, cost_at, affinity_at, Free}
 use Rattle.fields.specs.Hyperperiod.{hyperperiod_of}
 use Rattle.taskset.specs.Demands.{demand_of, load_on}
@@ -142,7 +141,7 @@ pub record DemandThree (t : Table) : Type 0 where
   pub exact : t.Valid → (k : ℕ) → k < t.fields.n
       → demand_of t.fields k * period_at t.fields k ≡ (budget_at t.fields k + t.fields.charge) * hyperperiod_of t.fields
   -- For an accepted fresh core, every list of ticks from the record that the call returned has the tick guarantee, sentence by sentence.
-  pub ticks : (placement : List ℕ) (core : ℕ) → (start_of t placement core).outcome ≡ Accepted → (ticks : List (List ℕ))
+  pub ticks : (placement : List ℕ) (core : ℕ) → (start_of t placement core).outcome ≡ Ok tt → (ticks : List (List ℕ))
       → TickGuarantee (placed_tasks t.fields placement) core (start_of t placement core).core.charge (start_of t placement core).core.slots ticks
 
 -- A board without a charge: the charge adds nothing, and what is said above is the base with core bytes.

@@ -1,8 +1,7 @@
 -- The two stored forms of a table, and the way between them: what W7 asks of the writer of the new form, the move from the old form and the move back.
-use Rattle.std.specs.Prelude.{ℕ, ◌+◌, ◌*◌, ◌≤◌, ◌≡◌, List, ◌++◌, length, get_or, take, drop}
+use Rattle.std.specs.Prelude.{ℕ, ◌+◌, ◌*◌, ◌≤◌, ◌≡◌, List, ◌++◌, length, get_or, take, drop, Ok}
 use Rattle.wire.specs.Bytes.{Bytes}
 use Rattle.refusal.specs.declared.Cause.TheVariants.{Buffer}
-use Rattle.refusal.specs.declared.Outcome.TheVariants.{Accepted}
 use Rattle.fields.specs.Fields.{cut, Alike}
 use Rattle.taskset.specs.Reading.{accepted_reading}
 use Rattle.fields.specs.declared.Fields.{Fields}
@@ -39,7 +38,7 @@ old_in table out = stored_of old_bytes (returned table) out
 -- A call that is accepted, which stores the fields of a table of bytes.
 pub record Accepts (bytes : Fields → List ℕ) (t : Table) (table out : List ℕ) : Type 0 where
   pub small : Bytes table
-  pub accepted : (transfer_of Buffer bytes t (length out)).outcome ≡ Accepted
+  pub accepted : (transfer_of Buffer bytes t (length out)).outcome ≡ Ok tt
 
 abbrev pub MovesOn : List ℕ → List ℕ → Type 0
 MovesOn table out = Accepts new_bytes (alone table) table out
@@ -61,7 +60,7 @@ pub record Forms : Type 0 where
   pub moves-on : (table : List ℕ) → StoresIn new_bytes (NewForm (alone table).fields) (4 + 9 * get_or table 0 0) (alone table)
   pub moves_back : (table : List ℕ) → StoresIn old_bytes (OldForm (new table).fields) (2 + 8 * get_or table 1 0) (returned table)
   -- Reading what the writer wrote gives its fields, with 0 beyond n; writing what was read gives the bytes.
-  pub read_back : (fields : Fields) (out : List ℕ) → (transfer_of Buffer new_bytes (written fields) (length out)).outcome ≡ Accepted
+  pub read_back : (fields : Fields) (out : List ℕ) → (transfer_of Buffer new_bytes (written fields) (length out)).outcome ≡ Ok tt
       → reading_of (new (written_in fields out)) ≡ accepted_reading (cut fields)
   pub write_back : (table : List ℕ) → Bytes table → (new table).Valid → Yields Buffer new_bytes (written (new table).fields) table
   -- The writer reads nothing beyond n: fields that are equal up to n give the same answer and output.

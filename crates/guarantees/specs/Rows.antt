@@ -1,10 +1,9 @@
 -- The paper's worked rows, and rows that each fix what no other does, as lists, one for each request, and one statement that goes down a list.
-use Rattle.std.specs.Prelude.{ℕ, ◌-◌, ◌≡◌, List, [], ◌∷◌, ◌++◌, length, replicate}
+use Rattle.std.specs.Prelude.{ℕ, ◌-◌, ◌≡◌, List, [], ◌∷◌, ◌++◌, length, replicate, Ok}
 use Prim.Native.String.{String}
 use Rattle.numbers.specs.Rows.{row, entry}
 use Rattle.refusal.specs.Conditions.{Gives}
 use Rattle.refusal.specs.declared.Cause.TheVariants.{Buffer}
-use Rattle.refusal.specs.declared.Outcome.TheVariants.{Accepted}
 use Rattle.taskset.specs.Table.{Table, reading_of}
 use Rattle.fields.specs.declared.Fields.{Fields}
 use Rattle.oldform.specs.Form.{old_table, every_affinity, old_bytes}
@@ -105,11 +104,11 @@ Holds charge bytes (frames table hyperperiod) = (reading_of (beside table charge
 Holds charge bytes (plans table limit verdict cores rejected steps) =
     plan_of (beside table charge (bytes table)) limit ≡ record { verdict = verdict; placement = row 0 (length cores) (entry cores); rejected = rejected; steps = steps }
 Holds charge bytes (quick table cores rejected) =
-    quick_of (beside table charge (bytes table)) ≡ record { outcome = Accepted; placement = row 0 (length cores) (entry cores); rejected = rejected }
-Holds charge bytes (ceilings table ceiling) = ceiling_of (beside table charge (bytes table)) ≡ record { outcome = Accepted; ceiling = ceiling }
+    quick_of (beside table charge (bytes table)) ≡ record { outcome = Ok tt; placement = row 0 (length cores) (entry cores); rejected = rejected }
+Holds charge bytes (ceilings table ceiling) = ceiling_of (beside table charge (bytes table)) ≡ record { outcome = Ok tt; ceiling = ceiling }
 Holds charge bytes (refuses table limit number place) = Gives (verdict_outcome (plan_of (beside table charge (bytes table)) limit).verdict) number place
 Holds charge bytes (starts table placement core slots) =
-    start_of (beside table charge (bytes table)) placement core ≡ record { outcome = Accepted; core = record { slots = slots; charge = charge } }
+    start_of (beside table charge (bytes table)) placement core ≡ record { outcome = Ok tt; core = record { slots = slots; charge = charge } }
 Holds charge bytes (refuses_core table placement core number place) = Gives (start_of (beside table charge (bytes table)) placement core).outcome number place
 Holds charge bytes (ticks table placement core requests ran) =
     runs (ticked (start_of (beside table charge (bytes table)) placement core).core.charge (start_of (beside table charge (bytes table)) placement core).core.slots requests) ≡ ran
@@ -117,18 +116,18 @@ Holds charge bytes (tick_once slots requests run late next) =
     tick charge slots requests ≡ record { refusal = 0; place = 0; charge = charge; slots = next; run = run; late = late }
 Holds charge bytes (refuses_tick slots place) = tick charge slots [] ≡ record { refusal = 12; place = place; charge = charge; slots = slots; run = 0; late = 0 }
 Holds charge bytes (reads_new table fields hyperperiod) =
-    ((reading_of (new table)).outcome ≡ Accepted) × ((reading_of (new table)).tasks.fields ≡ fields) × ((reading_of (new table)).tasks.hyperperiod ≡ hyperperiod)
+    ((reading_of (new table)).outcome ≡ Ok tt) × ((reading_of (new table)).tasks.fields ≡ fields) × ((reading_of (new table)).tasks.hyperperiod ≡ hyperperiod)
 Holds charge bytes (refuses_new table number place) = Gives (reading_of (new table)).outcome number place
-Holds charge bytes (stores call out size after) = (answer_to call (length out) ≡ record { outcome = Accepted; length = size }) × (out_after call out ≡ after)
+Holds charge bytes (stores call out size after) = (answer_to call (length out) ≡ record { outcome = Ok tt; length = size }) × (out_after call out ≡ after)
 Holds charge bytes (refuses_store call out number place) =
     Gives (answer_to call (length out)).outcome number place × ((answer_to call (length out)).length ≡ 0) × (out_after call out ≡ out)
 Holds charge bytes (prints table output) = output_of (new table) ≡ ascii output
 Holds charge bytes (prints_quick table output) = quick_output_of (new table) ≡ ascii output
 Holds charge bytes (lists table plan output) = plan_lines (reading_of (new table)).tasks plan ≡ ascii output
-Holds charge bytes (orders table list tasks) = task_order_of (new table) list ≡ record { outcome = Accepted; order = row 0 (length tasks) (entry tasks) }
+Holds charge bytes (orders table list tasks) = task_order_of (new table) list ≡ record { outcome = Ok tt; order = row 0 (length tasks) (entry tasks) }
 Holds charge bytes (refuses_list table list number place) = Gives (task_order_of (new table) list).outcome number place × ((task_order_of (new table) list).order ≡ replicate 16 0)
 Holds charge bytes (prints_order input output) = feeds_output_of input ≡ ascii output
-Holds charge bytes (frames_bus table hyperperiod) = ((reading_of (bus table)).outcome ≡ Accepted) × ((reading_of (bus table)).tasks.hyperperiod ≡ hyperperiod)
+Holds charge bytes (frames_bus table hyperperiod) = ((reading_of (bus table)).outcome ≡ Ok tt) × ((reading_of (bus table)).tasks.hyperperiod ≡ hyperperiod)
 Holds charge bytes (refuses_bus table number place) =
     Gives (reading_of (bus table)).outcome number place × Gives (verdict_outcome (plan_of (bus table) 1000000).verdict) number place
 Holds charge bytes (plans_bus table limit verdict cores rejected steps) =

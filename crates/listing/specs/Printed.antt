@@ -3,7 +3,7 @@ use Rattle.std.specs.Prelude.{ℕ, ◌≤◌, ◌≡◌, List}
 use Rattle.refusal.specs.Causes.{number_of, place_of}
 use Rattle.refusal.specs.Tests.{by_outcome}
 use Rattle.refusal.specs.Conditions.{First}
-use Rattle.refusal.specs.declared.Outcome.{Outcome}
+use Rattle.refusal.specs.Outcome.{Outcome}
 use Rattle.taskset.specs.Table.{Table}
 use Rattle.listing.specs.Lines.{refusal_line}
 

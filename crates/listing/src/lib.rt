@@ -9,7 +9,7 @@ ghost use Rattle.listing.specs.Printed.{printed};
 ghost use Rattle.listing.specs.Lines.{refusal_line, sizes_line, task_line, task_lines, table_lines};
 
 use fields::Fields;
-use refusal::{Cause, Outcome};
+use refusal::Cause;
 use taskset::TaskSet;
 use text::Text;
 
@@ -31,7 +31,7 @@ fn append_sizes(text: Text, t: TaskSet) -> Text
     let word = text::append_bytes(text, b"table");
     let n = decimal::append_field(word, t.fields.n as u64);
     let m = decimal::append_field(n, t.fields.m as u64);
-    let h = decimal::append_field(m, t.hyperperiod as u64);
+    let h = decimal::append_field(m, u64::from(t.hyperperiod));
     text::append_bytes(h, b"\n")
 }
 
@@ -40,11 +40,11 @@ fn append_task(t: Text, task: usize, period: u32, budget: u32, core: u8, byte: u
     ensures { Appended t (task_line task period budget core (permitted_count byte 8) (lowest_permitted byte 8)) 126 result }
 {
     let number = decimal::append_decimal(t, task as u64);
-    let p = decimal::append_field(number, period as u64);
-    let b = decimal::append_field(p, budget as u64);
-    let c = decimal::append_field(b, core as u64);
-    let count = decimal::append_field(c, affinity::count(byte) as u64);
-    let lowest = decimal::append_field(count, affinity::lowest(byte) as u64);
+    let p = decimal::append_field(number, u64::from(period));
+    let b = decimal::append_field(p, u64::from(budget));
+    let c = decimal::append_field(b, u64::from(core));
+    let count = decimal::append_field(c, u64::from(affinity::count(byte)));
+    let lowest = decimal::append_field(count, u64::from(affinity::lowest(byte)));
     text::append_bytes(lowest, b"\n")
 }
 
@@ -54,9 +54,8 @@ fn append_tasks(t: Text, f: Fields, cores: [u8; 16]) -> Text
     ensures { Appended t (task_lines f cores f.n) 2016 result }
 {
     let mut longer = t;
-    let mut k = 0;
-    while k < f.n {
-        let next = append_task(
+    for k in 0..f.n {
+        longer = append_task(
             longer,
             k + 1,
             f.periods[k],
@@ -64,8 +63,6 @@ fn append_tasks(t: Text, f: Fields, cores: [u8; 16]) -> Text
             cores[k],
             f.affinity[k],
         );
-        longer = next;
-        k += 1;
     }
     longer
 }
@@ -76,17 +73,16 @@ pub fn append_table(text: Text, t: TaskSet, cores: [u8; 16]) -> Text
     ensures { Appended text (table_lines t cores) 2085 result }
 {
     let sizes = append_sizes(text, t);
-    let fields = t.fields;
-    append_tasks(sizes, fields, cores)
+    append_tasks(sizes, t.fields, cores)
 }
 
 // The output for a refused table: the line of its refusal alone.
-pub fn refusal_report(outcome: Outcome) -> Text
+pub fn refusal_report(outcome: Result<(), Cause>) -> Text
     ensures { shown result ≡ printed outcome [] }
 {
     let nothing = text::empty();
     match outcome {
-        Outcome::Accepted => nothing,
-        Outcome::Refused(cause) => append_refusal(nothing, cause),
+        Ok(()) => nothing,
+        Err(cause) => append_refusal(nothing, cause),
     }
 }

@@ -11,7 +11,7 @@ use Rattle.numbers.specs.Sums.{sum_to}
 use Rattle.numbers.proofs.BoolLaws.{cond_le}
 use Rattle.refusal.specs.Tests.{refuse_if}
 use Rattle.refusal.specs.declared.Cause.TheVariants.{Overload}
-use Rattle.refusal.specs.declared.Outcome.{Outcome}
+use Rattle.refusal.specs.Outcome.{Outcome}
 use Rattle.fields.specs.Most.{most_multiple}
 use Rattle.taskset.specs.declared.TaskSet.{TaskSet}
 use Rattle.taskset.specs.Demands.{demand_of, load_on}

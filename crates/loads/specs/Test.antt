@@ -2,7 +2,7 @@
 use Rattle.std.specs.Prelude.{ℕ, List, ltb}
 use Rattle.refusal.specs.Tests.{refuse_if}
 use Rattle.refusal.specs.declared.Cause.TheVariants.{Overload}
-use Rattle.refusal.specs.declared.Outcome.{Outcome}
+use Rattle.refusal.specs.Outcome.{Outcome}
 use Rattle.fields.specs.declared.Fields.{Fields}
 use Rattle.fields.specs.Hyperperiod.{hyperperiod_of}
 use Rattle.taskset.specs.Demands.{load_on}

@@ -6,7 +6,7 @@ ghost use Rattle.taskset.specs.Demands.{load_on};
 ghost use Rattle.taskset.specs.Promise.{Checked};
 ghost use Rattle.loads.specs.Test.{load_test};
 
-use refusal::{Cause, Outcome};
+use refusal::Cause;
 use taskset::TaskSet;
 
 // The demand of a task, if it is on the core.
@@ -22,16 +22,14 @@ fn load_on(t: TaskSet, placement: &[u8], core: u8) -> u32
     ensures { result ≡ load_on t.fields placement.now core }
 {
     let mut sum: u32 = 0;
-    let mut k: usize = 0;
-    while k < t.fields.n {
+    for k in 0..t.fields.n {
         sum += share(t.demands[k], wire::byte(placement, k) == core);
-        k += 1;
     }
     sum
 }
 
 // Number 11.
-pub fn load_test(t: TaskSet, placement: &[u8], core: u8) -> Outcome
+pub fn load_test(t: TaskSet, placement: &[u8], core: u8) -> Result<(), Cause>
     requires { Checked t }
     ensures { result ≡ load_test t.fields placement.now core }
 {

@@ -1,21 +1,22 @@
 -- The reply by the outcome, and why a place and a count fit.
+use Rattle.std.specs.Prelude.{Ok, Err}
 use mathlib.Core.Path.{◌≡◌, refl, sym, ◌∙◌, ap, subst}
 use mathlib.Core.Logic.{⊎_elim}
 use mathlib.Core.Bool.{Bool, true, false, not}
 use mathlib.Core.List.{List, [], ◌∷◌}
-use Prim.Native.Nat.{ℕ, zero, suc, ◌+◌, ◌≤◌, ◌<◌, ◌^◌, zero-le}
+use Prim.Native.Nat.{ℕ, zero, suc, ◌≤◌, ◌<◌, ◌^◌, zero-le}
 use native.Mathlib.Omega.{arith}
 use borrow.Author.Tests.{ltb-false}
-use lib.Dec.{ltb, eqb}
+use lib.Dec.{eqb}
 use lib.ListN.{length}
+use Rattle.std.specs.Prelude.{Result, Ok, Err}
 use Rattle.numbers.specs.First.{first}
 use Rattle.numbers.proofs.FirstLaws.{first_is}
 use Rattle.refusal.specs.Causes.{number_of, place_of, number_in, place_in}
 use Rattle.refusal.specs.Tests.{◌then◌, refuse_if, refuse_at, by_outcome}
 use Rattle.refusal.specs.declared.Cause.{Cause}
 use Rattle.refusal.specs.declared.Cause.TheVariants.{Answer, LogRoom, Record}
-use Rattle.refusal.specs.declared.Outcome.{Outcome}
-use Rattle.refusal.specs.declared.Outcome.TheVariants.{Accepted, Refused}
+use Rattle.refusal.specs.Outcome.{Outcome}
 use Rattle.refusal.proofs.TestLaws.{refuse_if_accepted, outcome_cases}
 use Rattle.runs.specs.declared.Run.{Run}
 use Rattle.runs.specs.declared.Logged.{Logged}
@@ -27,19 +28,19 @@ use Rattle.runs.proofs.LentLaws.{logged_outcome}
 use Rattle.recording.specs.Tests.{above_at, answers_test, write_outcome, write_answer}
 use Rattle.recording.proofs.WriteLaws.{write_accepted, count_accepted, count_refused}
 use Rattle.replay.specs.declared.Audit.{Audit}
-use Rattle.replay.specs.Tests.{expand_answer, audited, audit_of, audit_start, audit_answer}
-use Rattle.replay.proofs.AuditLaws.{InRange, range_all, audited-unfit, audited_fit, audit_answers}
+use Rattle.replay.specs.Tests.{expand_answer, with_run, audited, audit_of, audit_start, audit_answer}
+use Rattle.replay.proofs.AuditLaws.{InRange, range_step, audit_answers}
 use Rattle.refusal.specs.Conditions.{Condition, Decides}
 use Rattle.logentry.specs.Reply.{reply_of, Replies}
 use Rattle.logentry.specs.declared.Reply.{Reply}
 
 -- ---- by the outcome
 
-pub reply_accepted : {a : Logged} → a.outcome ≡ Accepted → ◌≡◌ {A = Reply} (record { number = 0; place = 0; count = a.count }) (reply_of a)
+pub reply_accepted : {a : Logged} → a.outcome ≡ Ok tt → ◌≡◌ {A = Reply} (record { number = 0; place = 0; count = a.count }) (reply_of a)
 unfolding reply_of
 reply_accepted {a} e = λ i. record { number = ap number_in (sym e) i; place = ap place_in (sym e) i; count = a.count }
 
-pub reply_refused : {a : Logged} {c : Cause} {n p : ℕ} → a.outcome ≡ Refused c → n ≡ number_of c → p ≡ place_of c → ◌≡◌ {A = Reply} (record { number = n; place = p; count = a.count }) (reply_of a)
+pub reply_refused : {a : Logged} {c : Cause} {n p : ℕ} → a.outcome ≡ Err c → n ≡ number_of c → p ≡ place_of c → ◌≡◌ {A = Reply} (record { number = n; place = p; count = a.count }) (reply_of a)
 unfolding reply_of
 reply_refused {a} e f g = λ i. record { number = (f ∙ ap number_in (sym e)) i; place = (g ∙ ap place_in (sym e)) i; count = a.count }
 
@@ -72,7 +73,7 @@ Low o = place_in o ≤ 60001
 abbrev pub Fits : Logged → Type 0
 Fits a = Low a.outcome × (a.count ≤ 60000)
 
-pub place_fits : {a : Logged} {c : Cause} {p : ℕ} → a.outcome ≡ Refused c → Fits a → p ≡ place_of c → p < 2 ^ 32
+pub place_fits : {a : Logged} {c : Cause} {p : ℕ} → a.outcome ≡ Err c → Fits a → p ≡ place_of c → p < 2 ^ 32
 place_fits e h g = let z = g ∙ ap place_in (sym e) in omega (arith, z, h.0)
 
 -- the places of tests in order
@@ -86,16 +87,16 @@ unfolding refuse_at
 low_at zero c e h = zero-le
 low_at (suc k) c e h = let z = e (suc k) in omega (arith, z, h)
 
-low_then : (o p : Outcome) → Low o → (o ≡ Accepted → Low p) → Low (o then p)
+low_then : (o p : Outcome) → Low o → (o ≡ Ok tt → Low p) → Low (o then p)
 unfolding ◌then◌
-low_then Accepted p h g = g refl
-low_then (Refused c) p h g = h
+low_then (Ok _) p h g = g refl
+low_then (Err c) p h g = h
 
 -- a count is at most that of an acceptance
 logged_count : (o : Outcome) (n : ℕ) → (logged_by o n).count ≤ n
 unfolding logged_by by_outcome
-logged_count Accepted n = omega arith
-logged_count (Refused c) n = zero-le
+logged_count (Ok _) n = omega arith
+logged_count (Err c) n = zero-le
 
 -- ---- of writing
 
@@ -117,42 +118,36 @@ low_write xs room =
 count_write : (xs : List ℕ) (room : ℕ) → (write_answer xs room).count ≤ 60000
 count_write xs room =
     ⊎_elim
-    (λ (e : write_outcome xs room ≡ Accepted). let n = count_accepted xs room e in let f = (write_accepted xs room e).0 in let r = runs_le 0 xs in omega (arith, n, f, r))
-    (λ (e : (c : Cause) × (write_outcome xs room ≡ Refused c)). let n = count_refused xs room e.0 e.1 in omega (arith, n))
+    (λ (e : write_outcome xs room ≡ Ok tt). let n = count_accepted xs room e in let f = (write_accepted xs room e).0 in let r = runs_le 0 xs in omega (arith, n, f, r))
+    (λ (e : (c : Cause) × (write_outcome xs room ≡ Err c)). let n = count_refused xs room e.0 e.1 in omega (arith, n))
     (outcome_cases (write_outcome xs room))
 
 pub write_fits : (xs : List ℕ) (room : ℕ) {a : Logged} → a ≡ write_answer xs room → Fits a
 unfolding write_answer
 write_fits xs room e = subst Fits (sym e) (subst Low (sym (logged_outcome (write_outcome xs room) (length (runs xs)))) (low_write xs room), count_write xs room)
 
--- ---- of expanding: an unfit record stands at most one behind those that were seen
+-- ---- of expanding: an unfit record stands one behind those that were seen
 
-abbrev Placed : Audit → Type 0
-Placed a = a.unfit ≤ a.seen + 1
+abbrev Found : Result Audit ℕ → Type 0
+Found (Ok a) = InRange a
+Found (Err place) = place ≤ 60001
 
-placed_step : (a : Audit) (r : Run) → Placed a → Placed (audited a r)
-placed_step a r p = start (ltb 0 a.unfit) refl
+found-all : (a : Audit) (rs : List Run) → InRange a → Found (audit_of a rs)
+found-all a [] s = s
+found-all a (r ∷ rs) s = go (unfit a.before a.sum r) refl (found-all (with_run a r) rs)
   where
-    last : (t : Bool) → unfit a.before a.sum r ≡ t → a.unfit ≡ 0 → Placed (audited a r)
-    last true e z = subst Placed (sym (audited-unfit a r z e)) (omega arith)
-    last false e z = subst Placed (sym (audited_fit a r z e)) zero-le
+    go : (t : Bool) → unfit a.before a.sum r ≡ t → (InRange (with_run a r) → Found (audit_of (with_run a r) rs)) → Found (audit_of a (r ∷ rs))
+    go true e ih = rw e (omega (arith, s))
+    go false e ih = let fit : Ok (with_run a r) ≡ audited a r = rw e refl in rw e (ih (range_step a r fit s))
 
-    start : (t : Bool) → ltb 0 a.unfit ≡ t → Placed (audited a r)
-    start true e = let same : audited a r ≡ a = rw e in subst Placed (sym same) p
-    start false e = last (unfit a.before a.sum r) refl (let h = ltb-false 0 a.unfit e in omega (arith, h))
-
-placed-all : (a : Audit) (rs : List Run) → Placed a → Placed (audit_of a rs)
-placed-all a [] p = p
-placed-all a (r ∷ rs) p = placed-all (audited a r) rs (placed_step a r p)
-
-audit_fits : (a : Audit) (room : ℕ) → InRange a → Placed a → Fits (audit_answer a room)
-unfolding audit_answer
-audit_fits a room s p =
-    let o : Outcome = refuse_at a.unfit Record then refuse_if (not (eqb a.sum room)) (Record 0) in
-    let low : Low o = low_then _ _ (low_at a.unfit Record (λ j. refl) (omega (arith, s, p))) (λ _. low_if _ (Record 0) refl) in
+audit_fits : (found : Result Audit ℕ) (room : ℕ) → Found found → Fits (audit_answer found room)
+audit_fits (Ok a) room s =
+    let o : Outcome = refuse_if (not (eqb a.sum room)) (Record 0) in
     let n = logged_count o a.sum in
-    (subst Low (sym (logged_outcome o a.sum)) low, omega (arith, n, s))
+    (subst Low (sym (logged_outcome o a.sum)) (low_if _ (Record 0) refl), omega (arith, n, s))
+audit_fits (Err place) room s =
+    let n = logged_count (Err (Record place)) 0 in
+    (subst Low (sym (logged_outcome (Err (Record place)) 0)) s, omega (arith, n))
 
 pub expand-fits : (rs : List Run) (room : ℕ) {a : Logged} → a ≡ expand_answer rs room → Fits a
-expand-fits rs room e =
-    subst Fits (audit_answers rs room ∙ sym e) (audit_fits (audit_of audit_start rs) room (range_all audit_start rs (zero-le, zero-le)) (placed-all audit_start rs zero-le))
+expand-fits rs room e = subst Fits (audit_answers rs room ∙ sym e) (audit_fits (audit_of audit_start rs) room (found-all audit_start rs (zero-le, zero-le)))

@@ -11,7 +11,6 @@ ghost use Rattle.replay.specs.Limits.{Expandable, expand_conditions};
 ghost use Rattle.replay.specs.Promise.{Expands};
 ghost use Rattle.logentry.specs.Reply.{reply_of, Replies};
 
-use refusal::Outcome;
 use runs::{Logged, Run};
 
 // An answer in the paper's numbers: the refusal's number and place, 0 and 0 if there is none, and the count.
@@ -30,12 +29,12 @@ fn in_numbers(answer: Logged) -> Reply
 {
     let outcome = answer.outcome;
     match outcome {
-        Outcome::Accepted => Reply {
+        Ok(()) => Reply {
             number: 0,
             place: 0,
             count: answer.count as u32,
         },
-        Outcome::Refused(cause) => Reply {
+        Err(cause) => Reply {
             number: numbering::number(cause),
             place: numbering::place(cause) as u32,
             count: answer.count as u32,

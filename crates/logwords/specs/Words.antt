@@ -20,6 +20,10 @@ numbers_of (r ∷ rs) = r.task ∷ r.first ∷ r.length ∷ numbers_of rs
 unfoldable pub stored : List ℕ → ℕ → Run → List ℕ
 stored words k r = set (set (set words (3 * k) r.task) (3 * k + 1) r.first) (3 * k + 2) r.length
 
--- every number of the row after the answers were written: those of its records then, and what stands behind the last whole record
+-- the row with other records in place of its own: their numbers, and what stands behind the last whole record
+abbrev pub with_records : List ℕ → List Run → List ℕ
+with_records words rs = numbers_of rs ++ drop (3 * length (records_in words)) words
+
+-- every number of the row after the answers were written
 unfoldable pub words_after : List ℕ → List ℕ → List ℕ
-words_after answers words = numbers_of (log_after answers (records_in words)) ++ drop (3 * length (records_in words)) words
+words_after answers words = with_records words (log_after answers (records_in words))

@@ -1,4 +1,5 @@
 -- A move into an output that has room for every accepted table: what is written, and what that is in the table's terms.
+use Rattle.std.specs.Prelude.{Ok, Err}
 use Prim.Native.Nat.{ℕ, ◌≤◌}
 use mathlib.Core.Path.{◌≡◌, refl, sym, ◌∙◌}
 use mathlib.Core.List.{List, []}
@@ -9,8 +10,7 @@ use native.Mathlib.Omega.{arith}
 use borrow.Author.Tests.{le-ltb}
 use Rattle.refusal.specs.Conditions.{First}
 use Rattle.refusal.specs.Tests.{◌then◌, refuse_if, room_test, by_outcome}
-use Rattle.refusal.specs.declared.Outcome.{Outcome}
-use Rattle.refusal.specs.declared.Outcome.TheVariants.{Accepted, Refused}
+use Rattle.refusal.specs.Outcome.{Outcome}
 use Rattle.refusal.proofs.TestLaws.{outcome_cases, then_first, then_refused}
 use Rattle.refusal.proofs.ConditionLaws.{decides, gives_refused}
 use Rattle.text.specs.Shown.{shown, Appended}
@@ -53,13 +53,13 @@ table_shown out {n} h g z p = append_whole z p (omega (arith, length-take-le n o
 -- the table in front of the output
 stored_by : (o : Outcome) (bytes out : List ℕ) → stored_in (transfer_by o (length bytes)) (exit_by out o bytes) ≡ moved_bytes o bytes
 unfolding transfer_by exit_by moved_bytes by_outcome
-stored_by Accepted bytes out = take-append_seam bytes (drop (length bytes) out)
-stored_by (Refused cause) bytes out = refl
+stored_by (Ok _) bytes out = take-append_seam bytes (drop (length bytes) out)
+stored_by (Err cause) bytes out = refl
 
-length_by : (o : Outcome) (size room : ℕ) → (o ≡ Accepted → size ≤ room) → (transfer_by o size).length ≤ room
+length_by : (o : Outcome) (size room : ℕ) → (o ≡ Ok tt → size ≤ room) → (transfer_by o size).length ≤ room
 unfolding transfer_by by_outcome
-length_by Accepted size room h = h refl
-length_by (Refused cause) size room h = omega arith
+length_by (Ok _) size room h = h refl
+length_by (Err cause) size room h = omega arith
 
 module _ (bytes : Fields → List ℕ) {t : Table} (sound : Sound t) (out : List ℕ) (fits : t.Valid → length (bytes t.fields) ≤ length out) where
   abbrev tests : Outcome
@@ -69,7 +69,7 @@ module _ (bytes : Fields → List ℕ) {t : Table} (sound : Sound t) (out : List
   moved = bytes t.fields
 
   -- number 8 never occurs
-  has_room : tests ≡ Accepted → length moved ≤ length out
+  has_room : tests ≡ Ok tt → length moved ≤ length out
   has_room q = fits ((table_accepts sound).0 q)
 
   room : tests then room_test Buffer (length moved) (length out) ≡ tests

@@ -1,7 +1,7 @@
 -- The whole output of the programs `tonew` and `toold`, byte for byte.
 use Rattle.std.specs.Prelude.{ℕ, ◌≡◌, List, []}
 use Rattle.text.specs.Shown.{shown}
-use Rattle.refusal.specs.declared.Outcome.{Outcome}
+use Rattle.refusal.specs.Outcome.{Outcome}
 use Rattle.refusal.specs.Tests.{by_outcome}
 use Rattle.taskset.specs.Table.{Table}
 use Rattle.fields.specs.declared.Fields.{Fields}

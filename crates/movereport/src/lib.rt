@@ -26,15 +26,10 @@ fn texts(answer: Transfer, out: &[u8]) -> Moved
     requires { (answer.length ≤ length out.now) × (answer.length ≤ 2560) }
     ensures { Shows (stored_in answer out.now) (printed answer.outcome []) result }
 {
-    let nothing = text::empty();
-    let length = answer.length;
-    let table = text::append_bytes(nothing, &out[..length]);
+    let table = text::append_bytes(text::empty(), &out[..answer.length]);
     let outcome = answer.outcome;
     let refusal = listing::refusal_report(outcome);
-    Moved {
-        table: table,
-        refusal: refusal,
-    }
+    Moved { table, refusal }
 }
 
 // The output of `tonew` for the bytes of a table in the old form. A table in the new form has at most 148 bytes.
@@ -47,6 +42,7 @@ pub fn to_new(table: &[u8]) -> Moved
     texts(answer, &out)
 }
 
+// Two functions and not one over the size and the call: three lines each, and what they share is `texts`.
 // The output of `toold` for the bytes of a table in the new form. A table in the old form has at most 130 bytes.
 pub fn to_old(table: &[u8]) -> Moved
     ensures answer { MoveOutput old_bytes (returned table.now) result }

@@ -4,7 +4,7 @@
 ghost use Rattle.std.specs.Prelude.{◌≡◌, ◌*◌};
 ghost use Rattle.numbers.specs.Multiples.{gcd as gcd_of, lcm as lcm_of};
 
-// The greatest common divisor, by Euclid's algorithm.
+// The greatest common divisor, by Euclid's algorithm: its loop has no index, and ends where nothing remains.
 fn gcd(a: u32, b: u32) -> u32
     ensures { result ≡ gcd_of a b }
 {
@@ -22,7 +22,7 @@ fn gcd(a: u32, b: u32) -> u32
 fn product(a: u32, b: u32) -> u64
     ensures { result ≡ a * b }
 {
-    (a as u64) * (b as u64)
+    u64::from(a) * u64::from(b)
 }
 
 // The least common multiple; 0 where one of the two is 0.

@@ -1,4 +1,5 @@
 -- The tests of a table in the new form are those of its limits and refusals, and what its reader is promised.
+use Rattle.std.specs.Prelude.{Ok}
 use Prim.Native.Nat.{ℕ, ◌+◌, ◌*◌, ◌≤◌}
 use mathlib.Core.Path.{◌≡◌, refl, ◌∙◌, ap₂}
 use mathlib.Core.List.{List, [], ◌∷◌, ◌++◌}
@@ -11,8 +12,7 @@ use Rattle.wire.specs.Bytes.{byte_at}
 use Rattle.refusal.specs.Tests.{◌then◌, in_order}
 use Rattle.refusal.specs.Conditions.{Tested}
 use Rattle.refusal.specs.declared.Cause.TheVariants.{FirstByte}
-use Rattle.refusal.specs.declared.Outcome.{Outcome}
-use Rattle.refusal.specs.declared.Outcome.TheVariants.{Accepted}
+use Rattle.refusal.specs.Outcome.{Outcome}
 use Rattle.refusal.proofs.ConditionLaws.{join, one-tested, tested_as, unnamed}
 use Rattle.taskset.specs.Reading.{reading_by}
 use Rattle.fields.specs.Tests.{limit_tests}
@@ -84,12 +84,12 @@ pub new_decoded : (s : List ℕ) {n charge : ℕ} {affinity : List ℕ} {f : Fie
 unfolding new_fields
 new_decoded s e p q a = e ∙ rw (a, p, q)
 
-pub new_shaped : (s : List ℕ) (f : Fields) {o front short first : Outcome} {n : ℕ} → o ≡ shape_outcome front (new_length n) s f
-    → front ≡ short then first → short ≡ short_test 4 s → first ≡ first_test s → n ≡ task_count s → o ≡ new_shape s f
+pub new_shaped : (s : List ℕ) (f : Fields) {o front : Outcome} {n : ℕ} → o ≡ shape_outcome front (new_length n) s f
+    → front ≡ short_test 4 s then first_test s → n ≡ task_count s → o ≡ new_shape s f
 unfolding new_shape
-new_shaped s f h p a b q = h ∙ ap₂ (λ x (k : ℕ). shape_outcome x (new_length k) s f) (p ∙ ap₂ ◌then◌ a b) q
+new_shaped s f h p q = h ∙ ap₂ (λ x (k : ℕ). shape_outcome x (new_length k) s f) p q
 
-pub new_sized : (s : List ℕ) (f : Fields) {o : Outcome} → o ≡ new_shape s f → o ≡ Accepted → Sized f
+pub new_sized : (s : List ℕ) (f : Fields) {o : Outcome} → o ≡ new_shape s f → o ≡ Ok tt → Sized f
 unfolding new_shape
 new_sized s f = shape_says (short_test 4 s then first_test s) (new_length (task_count s)) s f
 

@@ -2,14 +2,16 @@
 #![tactic(auto)]
 
 ghost use Rattle.std.specs.Prelude.{◌≡◌};
+ghost use Rattle.refusal.specs.Tests.{◌then◌};
 ghost use Rattle.taskset.specs.Promise.{Reads};
 ghost use Rattle.taskset.specs.Table.{reading_of, Decided};
 ghost use Rattle.form.specs.Layout.{ReadsIn};
+ghost use Rattle.form.specs.Shape.{short_test};
 ghost use Rattle.newform.specs.Form.{new_fields, NewForm};
 ghost use Rattle.newform.specs.Limits.{first_test, new_shape, new};
 
 use fields::Fields;
-use refusal::{Cause, Outcome};
+use refusal::Cause;
 use taskset::Reading;
 
 // A table is four bytes, and nine for each task.
@@ -28,21 +30,26 @@ pub fn decode(s: &[u8]) -> Fields
 }
 
 // Number 17.
-fn first_test(s: &[u8]) -> Outcome
+fn first_test(s: &[u8]) -> Result<(), Cause>
     ensures { result ≡ first_test s.now }
 {
     refusal::refuse_if(wire::byte(s, 0) != 0, Cause::FirstByte)
 }
 
+// Numbers 1 and 17, the tests of the leading bytes.
+fn front_tests(s: &[u8]) -> Result<(), Cause>
+    ensures { result ≡ short_test 4 s.now then first_test s.now }
+{
+    form::short_test(s, LEAD)?;
+    first_test(s)
+}
+
 // The tests of a table's shape, for the fields that it says: numbers 1, 17, 2, 3 and 4.
-pub fn shape_tests(table: &[u8], f: Fields) -> Outcome
+pub fn shape_tests(table: &[u8], f: Fields) -> Result<(), Cause>
     ensures { result ≡ new_shape table.now f }
 {
     let n = wire::size(wire::byte(table, 1));
-    let short = form::short_test(table, LEAD);
-    let first = first_test(table);
-    let front = refusal::then(short, first);
-    form::shape_tests(front, table, LEAD + EACH * n, f)
+    form::shape_tests(front_tests(table), table, LEAD + EACH * n, f)
 }
 
 // Reads a table in the new form: its task set, or the first cause of refusal.
@@ -53,6 +60,5 @@ pub fn read_new(table: &[u8]) -> Reading
     ensures stored { ReadsIn NewForm table.now result }
 {
     let f = decode(table);
-    let shape = shape_tests(table, f);
-    taskset::check_after(shape, f)
+    taskset::check_after(shape_tests(table, f), f)
 }

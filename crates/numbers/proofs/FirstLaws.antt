@@ -1,5 +1,8 @@
 -- Laws of the first index at which a test holds, and the steps of a loop that looks for it.
 use Prim.Native.Nat.{ℕ, zero, suc, ◌+◌, ◌-◌, ◌≤◌, ◌<◌}
+use Rattle.std.specs.Prelude.{Option, Some, None, unwrap_or}
+use Rattle.std.specs.Option.{is_some}
+use native.Mathlib.Numerals.{add-one}
 use mathlib.Core.Path.{◌≡◌, refl, sym, ◌∙◌, ap}
 use mathlib.Core.Bool.{Bool, true, false, cond, not, ◌&&◌, true≢false}
 use mathlib.Core.Logic.{◌≢◌, ⊎_elim, by_cases}
@@ -7,7 +10,7 @@ use lib.Dec.{eqb}
 use native.Mathlib.Decide.{dec_lt}
 use borrow.Author.Tests.{not-true, not-false, eq-eqb, ne_eqb}
 use native.Mathlib.Omega.{arith}
-use Rattle.numbers.specs.First.{first_from, first, IsFirst}
+use Rattle.numbers.specs.First.{first_from, first, found, IsFirst}
 use Rattle.numbers.proofs.BoolLaws.{true_or_false, and_left, and_right}
 use Rattle.numbers.proofs.BoundLaws.{not_unequal}
 
@@ -36,9 +39,31 @@ module _ {p : ℕ → Bool} {n i : ℕ} where
   pub looked_found : {r : Bool} → Seeking p n i → i < n → r ≡ p i → r ≡ true → i + 1 ≡ first p n
   looked_found s h e f = sym (seek_next s h ∙ rw (← e, f))
 
+  -- the number of what is found, as a search hands it back
+  pub looked_up : {r : Bool} → Seeking p n i → i < n → r ≡ p i → r ≡ true → Some (i + 1) ≡ found (first p n)
+  unfolding found
+  looked_up s h e f = rw (← looked_found s h e f, add-one i) refl
+
   pub seek_none : Seeking p n i → n ≤ i → 0 ≡ first p n
   unfolding rest first_from
   seek_none s h = let q : n - i ≡ 0 = omega arith in sym (rw q at s.left)
+
+-- none is found where the search ends
+pub none_found : {p : ℕ → Bool} {n i : ℕ} → Seeking p n i → n ≤ i → None ≡ found (first p n)
+unfolding found
+none_found s h = rw (← seek_none s h) refl
+
+-- the number of what a search hands back, or 0
+pub number_found : (k : ℕ) {x : ℕ} {r : Option ℕ} → x ≡ unwrap_or r 0 → r ≡ found k → x ≡ k
+unfolding found
+number_found zero e f = e ∙ ap (λ r. unwrap_or r 0) f
+number_found (suc k) e f = e ∙ ap (λ r. unwrap_or r 0) f
+
+-- whether a search finds one
+pub some_found : (k : ℕ) {b : Bool} {r : Option ℕ} → b ≡ is_some r → r ≡ found k → b ≡ not (eqb k 0)
+unfolding found
+some_found zero e f = e ∙ ap (λ r. is_some r) f
+some_found (suc k) e f = e ∙ ap (λ r. is_some r) f ∙ sym (rw (ne_eqb (suc k) 0 (λ z. omega arith)) refl)
 
 -- The test holds at what is found,
 from_holds : (p : ℕ → Bool) (i m k : ℕ) → first_from p i m ≡ suc k → (k < i + m) × (p k ≡ true)

@@ -138,19 +138,23 @@ module _ {A : Type 0} {z : A} {n : ℕ} {f : ℕ → A} {l : List A} {k : ℕ} w
   pub fill_done : Filled z n f l k → n ≤ k → l ≡ row z n f
   fill_done s h = let e : k ≡ n = omega (arith, s.top) in rw e at s.is
 
--- a row has sixteen entries, however large n is
-row_most : (n : ℕ) (f : ℕ → ℕ) {l : List ℕ} → l ≡ row 0 (min n 16) f → l ≡ row 0 n f
-unfolding row
-row_most n f {l} e =
-    row_ext 0 n f l (ap length e ∙ length-row 0 (min n 16) f)
-    (λ k b. ap (λ (x : List ℕ). get_or x k 0) e ∙ get_or-tab 0 16 (up_to 0 (min n 16) f) k b
-    ∙ by_cases (dec_lt k n)
-    (λ h. up_to-below 0 (min n 16) f k (omega arith) ∙ sym (up_to-below 0 n f k h))
-    (λ h. up_to_above 0 (min n 16) f k (omega arith) ∙ sym (up_to_above 0 n f k (omega arith))))
+module _ {A : Type 0} (z : A) (n : ℕ) (f : ℕ → A) {l : List A} where
+  -- a row has sixteen entries, however large n is
+  row_most : l ≡ row z (min n 16) f → l ≡ row z n f
+  unfolding row
+  row_most e =
+      row_ext z n f l (ap length e ∙ length-row z (min n 16) f)
+      (λ k b. ap (λ (x : List A). get_or x k z) e ∙ get_or-tab z 16 (up_to z (min n 16) f) k b
+      ∙ by_cases (dec_lt k n)
+      (λ h. up_to-below z (min n 16) f k (omega arith) ∙ sym (up_to-below z n f k h))
+      (λ h. up_to_above z (min n 16) f k (omega arith) ∙ sym (up_to_above z n f k (omega arith))))
 
--- the loop that fills at most sixteen of n entries
+  -- the loop that fills at most sixteen of n entries
+  pub filled_most : {count k : ℕ} → Filled z count f l k → count ≡ min n 16 → count ≤ k → l ≡ row z n f
+  filled_most s e h = row_most (fill_done s h ∙ ap (λ (x : ℕ). row z x f) e)
+
 pub fill_most : (n : ℕ) {f : ℕ → ℕ} {count : ℕ} {l : List ℕ} {k : ℕ} → Filled 0 count f l k → count ≡ min n 16 → count ≤ k → l ≡ row 0 n f
-fill_most n {f} s e h = row_most n f (fill_done s h ∙ ap (λ (x : ℕ). row 0 x f) e)
+fill_most n {f} = filled_most 0 n f
 
 -- as many entries as there are that are not 0
 pub entries_there : (n : ℕ) (xs : List ℕ) → ((k : ℕ) → k < n → 1 ≤ get_or xs k 0) → n ≤ length xs

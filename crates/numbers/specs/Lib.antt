@@ -1,5 +1,6 @@
 pub mod Bounds
 pub mod First
+pub mod Calls
 pub mod Rows
 pub mod Multiples
 pub mod Sums

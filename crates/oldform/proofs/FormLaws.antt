@@ -14,7 +14,6 @@ use Rattle.wire.specs.Bytes.{word_at, byte_at, bytes_of_all}
 use Rattle.wire.proofs.ReadBackLaws.{read_back, length-bytes}
 use Rattle.affinity.specs.Permitted.{every_core}
 use Rattle.fields.specs.Fields.{affinity_at}
-use Rattle.fields.specs.declared.Fields.{Fields}
 use Rattle.oldform.specs.Form.{task_count, core_count, old_fields, beside_fields, every_affinity, alone_fields, old_table, FieldsReadBack}
 
 -- a row that is read back is the list, with zeros up to sixteen

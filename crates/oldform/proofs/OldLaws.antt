@@ -1,6 +1,6 @@
 -- A stored table's tests are those of its limits and refusals, and what its readers are promised.
 use Prim.Native.Nat.{ℕ, ◌≤◌}
-use mathlib.Core.Path.{◌≡◌, refl, sym, ◌∙◌}
+use mathlib.Core.Path.{◌≡◌, refl, ◌∙◌}
 use mathlib.Core.List.{List, [], ◌∷◌, ◌++◌}
 use lib.ListN.{length}
 use native.Mathlib.Omega.{arith}
@@ -20,7 +20,7 @@ use Rattle.form.specs.Shape.{too_short, other_length}
 use Rattle.form.specs.Layout.{Bounded, ReadsIn}
 use Rattle.form.proofs.ShapeLaws.{short_tested, form_tested}
 use Rattle.form.proofs.LayoutLaws.{fields_stand, fields_bounded, reads_in}
-use Rattle.oldform.specs.Form.{task_count, old_length, old_fields, beside_fields, every_affinity, alone_fields, FormBeside}
+use Rattle.oldform.specs.Form.{task_count, old_length, beside_fields, every_affinity, alone_fields, FormBeside}
 use Rattle.oldform.specs.Limits.{ValidBeside, beside_conditions, alone_conditions, old_outcome, beside, alone}
 use Rattle.oldform.proofs.FormLaws.{every_counted, every_affinity_fact}
 

@@ -1,7 +1,7 @@
 -- The limits of a stored table and its refusals as plain statements, and the table as a call is given it.
 use Rattle.std.specs.Prelude.{ℕ, ◌+◌, ◌*◌, ◌≡◌, List, [], ◌∷◌, ◌++◌, ◌≢◌, length, get_or}
 use Rattle.refusal.specs.Conditions.{Condition, only}
-use Rattle.refusal.specs.declared.Outcome.{Outcome}
+use Rattle.refusal.specs.Outcome.{Outcome}
 use Rattle.fields.specs.Limits.{Within, sizes, charge_above, period_outside, budget_outside, cost_above, affinity_unfit, multiple_above}
 use Rattle.taskset.specs.Table.{Table}
 use Rattle.fields.specs.declared.Fields.{Fields}

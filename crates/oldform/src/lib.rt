@@ -23,15 +23,7 @@ pub const EACH: usize = 8;
 fn repeated(byte: u8, n: usize) -> [u8; MOST_TASKS]
     ensures { result ≡ row 0 n (entry (replicate n byte)) }
 {
-    let count = numbers::at_most_sixteen(n);
-    let mut entries = [0u8; MOST_TASKS];
-    let mut k = 0;
-    while k < count {
-        let next = numbers::with_byte(entries, k, byte);
-        entries = next;
-        k += 1;
-    }
-    entries
+    numbers::row(0, n, |_| byte)
 }
 
 // Reads a table with this charge, and with sixteen core bytes of which so many were given.
@@ -40,8 +32,7 @@ fn read_with(s: &[u8], charge: u32, affinity: [u8; MOST_TASKS], given: usize) ->
 {
     let n = wire::size(wire::byte(s, 0));
     let f = form::decode(s, 0, LEAD, charge, affinity, given);
-    let short = form::short_test(s, LEAD);
-    form::read(short, s, LEAD + EACH * n, f)
+    form::read(form::short_test(s, LEAD), s, LEAD + EACH * n, f)
 }
 
 // Reads a stored table with what is given beside it: the board's charge, and a core byte for each task. Its task set, or the first

@@ -21,14 +21,7 @@ fn are_twins(affinity: [u8; 16], n: usize, c: u32, d: u32) -> bool
     requires { (n ≤ 16) × (c < 4) × (d < 4) }
     ensures { result ≡ twins affinity n (c + 1) (d + 1) }
 {
-    let mut k = 0;
-    while k < n {
-        if tells_apart(affinity[k], c, d) {
-            return false;
-        }
-        k += 1;
-    }
-    true
+    numbers::first(n, |k| tells_apart(affinity[k], c, d)).is_none()
 }
 
 // Which cores are twins: entry 4 * c + d is whether those after c and d others are. Made once, before the walk.
@@ -36,13 +29,11 @@ pub fn twin_rows(affinity: [u8; 16], n: usize) -> [bool; 16]
     requires { n ≤ 16 }
     ensures { result ≡ twin_rows affinity n }
 {
-    let mut rows = [false; 16];
-    let mut i: usize = 0;
-    while i < 16 {
-        rows[i] = are_twins(affinity, n, (i / 4) as u32, (i % 4) as u32);
-        i += 1;
-    }
-    rows
+    numbers::row(
+        false,
+        16,
+        |i| are_twins(affinity, n, (i / 4) as u32, (i % 4) as u32),
+    )
 }
 
 // The sum of the first n demands.
@@ -51,10 +42,8 @@ pub fn total_demand(demands: [u32; 16], n: usize) -> u32
     ensures { result ≡ sum (take n demands) }
 {
     let mut total: u32 = 0;
-    let mut i: usize = 0;
-    while i < n {
-        total += demands[i];
-        i += 1;
+    for demand in &demands[..n] {
+        total += *demand;
     }
     total
 }
@@ -65,8 +54,5 @@ pub fn excess_of(total: u32, m: usize, h: u32) -> u32
     ensures { result ≡ total - m * h }
 {
     let room = (m as u32) * h;
-    if total < room {
-        return 0;
-    }
-    total - room
+    total.saturating_sub(room)
 }

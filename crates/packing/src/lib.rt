@@ -1,7 +1,7 @@
 // Numbers and bytes put into a lent output, as tables and plans are stored.
 #![tactic(auto)]
 
-ghost use Rattle.std.specs.Prelude.{◌≡◌, ◌+◌, ◌*◌, ◌≤◌, length, take};
+ghost use Rattle.std.specs.Prelude.{◌≡◌, ◌+◌, ◌*◌, ◌≤◌, length};
 ghost use Rattle.wire.specs.Bytes.{bytes_of, bytes_of_all, over};
 
 // Puts the four bytes of `x` at `at`, lowest byte first.
@@ -9,32 +9,23 @@ fn put_word(out: &mut [u8], at: usize, x: u32)
     requires { at + 4 ≤ length out.old }
     ensures { out.new ≡ over out.old at (bytes_of x) }
 {
-    out[at] = (x % 256) as u8;
-    out[at + 1] = (x / 256 % 256) as u8;
-    out[at + 2] = (x / 65536 % 256) as u8;
-    out[at + 3] = (x / 16777216 % 256) as u8;
+    out[at..at + 4].copy_from_slice(&x.to_le_bytes());
 }
 
-// Puts the first `n` numbers of a row one after another from `at` on.
-pub fn put_words(out: &mut [u8], at: usize, row: [u32; 16], n: usize)
-    requires { (n ≤ 16) × (at + 4 * n ≤ length out.old) }
-    ensures { out.new ≡ over out.old at (bytes_of_all (take n row)) }
+// Puts numbers one after another from `at` on.
+pub fn put_words(out: &mut [u8], at: usize, numbers: &[u32])
+    requires { at + 4 * length numbers.now ≤ length out.old }
+    ensures { out.new ≡ over out.old at (bytes_of_all numbers.now) }
 {
-    let mut k = 0;
-    while k < n {
-        put_word(out, at + 4 * k, row[k]);
-        k += 1;
+    for (k, x) in numbers.iter().enumerate() {
+        put_word(out, at + 4 * k, *x);
     }
 }
 
-// Puts the first `n` bytes of a row from `at` on.
-pub fn put_bytes(out: &mut [u8], at: usize, row: [u8; 16], n: usize)
-    requires { (n ≤ 16) × (at + n ≤ length out.old) }
-    ensures { out.new ≡ over out.old at (take n row) }
+// Puts bytes from `at` on.
+pub fn put_bytes(out: &mut [u8], at: usize, bytes: &[u8])
+    requires { at + length bytes.now ≤ length out.old }
+    ensures { out.new ≡ over out.old at bytes.now }
 {
-    let mut k = 0;
-    while k < n {
-        out[at + k] = row[k];
-        k += 1;
-    }
+    out[at..at + bytes.len()].copy_from_slice(bytes);
 }

@@ -4,7 +4,7 @@ use Rattle.numbers.specs.Bounds.{outside}
 use Rattle.numbers.specs.Rows.{entry}
 use Rattle.refusal.specs.Tests.{refuse_if}
 use Rattle.refusal.specs.declared.Cause.TheVariants.{PairList}
-use Rattle.refusal.specs.declared.Outcome.{Outcome}
+use Rattle.refusal.specs.Outcome.{Outcome}
 
 -- byte 0: how many pairs there are
 abbrev pub pair_count : List ℕ → ℕ

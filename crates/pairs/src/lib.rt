@@ -2,9 +2,9 @@
 #![tactic(auto)]
 
 ghost use Rattle.std.specs.Prelude.{◌≡◌, ◌<◌};
-ghost use Rattle.pairs.specs.Pairs.{pair_count, feeding as feeding_of, fed as fed_of, list_test, multiple, period_of, unfit};
+ghost use Rattle.pairs.specs.Pairs.{pair_count, feeding as feeding_of, fed as fed_of, list_test, period_of, unfit};
 
-use refusal::{Cause, Outcome};
+use refusal::Cause;
 
 // The most pairs of a list.
 pub const MOST_PAIRS: usize = 64;
@@ -34,38 +34,25 @@ pub fn fed(list: &[u8], i: usize) -> usize
 }
 
 // Number 19.
-pub fn list_test(list: &[u8]) -> Outcome
+pub fn list_test(list: &[u8]) -> Result<(), Cause>
     ensures { result ≡ list_test list.now }
 {
     let k = count(list);
-    let length = list.len();
     refusal::refuse_if(
-        (length == 0) | (MOST_PAIRS < k) | (length != 1 + 2 * k),
+        list.is_empty() | (MOST_PAIRS < k) | (list.len() != 1 + 2 * k),
         Cause::PairList,
     )
 }
 
-// Whether `p` is a multiple of `q`.
-fn is_multiple(p: u32, q: u32) -> bool
-    ensures { result ≡ multiple p q }
-{
-    if q == 0 {
-        return p == 0;
-    }
-    p % q == 0
-}
-
-// The period of task `t`; 0 if there is none.
+// The period of task `t`; 0 if there is none. No `Option`: the definition `unfit` reads it as 0 too.
 fn period_of(periods: [u32; 16], t: usize) -> u32
     ensures { result ≡ period_of periods t }
 {
     if t == 0 {
-        return 0;
+        0
+    } else {
+        periods.get(t - 1).copied().unwrap_or(0)
     }
-    if 16 < t {
-        return 0;
-    }
-    periods[t - 1]
 }
 
 // Whether tasks `a` and `b` of `n` tasks are no pair: a number is no task's, one task is named twice, or the periods do not fit.
@@ -74,7 +61,7 @@ pub fn is_unfit(n: usize, periods: [u32; 16], a: usize, b: usize) -> bool
 {
     let p = period_of(periods, a);
     let q = period_of(periods, b);
-    let harmonic = is_multiple(p, q) | is_multiple(q, p);
+    let harmonic = p.is_multiple_of(q) | q.is_multiple_of(p);
     let strange = numbers::outside(1, n as u64, a as u64) | numbers::outside(1, n as u64, b as u64);
     strange | (a == b) | !harmonic
 }

@@ -3,7 +3,7 @@ use Rattle.std.specs.Prelude.{ℕ, List, [], ◌∷◌}
 use Rattle.numbers.specs.Bounds.{outside}
 use Rattle.refusal.specs.Tests.{refuse_if, in_order}
 use Rattle.refusal.specs.declared.Cause.TheVariants.{CoreNumber}
-use Rattle.refusal.specs.declared.Outcome.{Outcome}
+use Rattle.refusal.specs.Outcome.{Outcome}
 use Rattle.fields.specs.declared.Fields.{Fields}
 use Rattle.loads.specs.Test.{load_test}
 use Rattle.entries.specs.Tests.{places_test, entries_test, permitted_test}

@@ -6,11 +6,11 @@ ghost use Rattle.taskset.specs.Promise.{Checked};
 ghost use Rattle.placing.specs.Tests.{core_test, placing_outcome};
 
 use fields::Fields;
-use refusal::{Cause, Outcome};
+use refusal::Cause;
 use taskset::TaskSet;
 
 // Number 10.
-fn core_test(f: Fields, core: u8) -> Outcome
+fn core_test(f: Fields, core: u8) -> Result<(), Cause>
     ensures { result ≡ core_test f core }
 {
     refusal::refuse_if(
@@ -20,18 +20,14 @@ fn core_test(f: Fields, core: u8) -> Outcome
 }
 
 // Numbers 9, 16, 10 and 11.
-pub fn placing_tests(t: TaskSet, placement: &[u8], core: u8) -> Outcome
+pub fn placing_tests(t: TaskSet, placement: &[u8], core: u8) -> Result<(), Cause>
     requires { Checked t }
     ensures { result ≡ placing_outcome t.fields placement.now core }
 {
     let f = t.fields;
-    let places = entries::places_test(f, placement);
-    let entries = entries::entries_test(f, placement);
-    let permitted = entries::permitted_test(f, placement);
-    let number = core_test(f, core);
-    let load = loads::load_test(t, placement, core);
-    let from_number = refusal::then(number, load);
-    let from_permitted = refusal::then(permitted, from_number);
-    let from_entries = refusal::then(entries, from_permitted);
-    refusal::then(places, from_entries)
+    entries::places_test(f, placement)?;
+    entries::entries_test(f, placement)?;
+    entries::permitted_test(f, placement)?;
+    core_test(f, core)?;
+    loads::load_test(t, placement, core)
 }

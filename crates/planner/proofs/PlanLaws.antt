@@ -1,4 +1,5 @@
 -- The planner's steps make the plan that its definition names.
+use Rattle.std.specs.Prelude.{Ok, Err}
 use Prim.Native.Nat.{ℕ, zero, suc, ◌≤◌}
 use mathlib.Core.Path.{◌≡◌, refl, sym, ◌∙◌, ap}
 use mathlib.Core.Bool.{Bool, true, false}
@@ -7,8 +8,7 @@ use lib.ListN.{get_or, take}
 use Rattle.numbers.specs.Reorder.{scatter}
 use Rattle.numbers.specs.Rows.{row, entry}
 use Rattle.refusal.specs.declared.Cause.{Cause}
-use Rattle.refusal.specs.declared.Outcome.{Outcome}
-use Rattle.refusal.specs.declared.Outcome.TheVariants as outcome
+use Rattle.refusal.specs.Outcome.{Outcome}
 use Rattle.refusal.proofs.TestLaws.{by_accepted, by_refused}
 use Rattle.taskset.specs.Promise.{Checked}
 use Rattle.taskset.specs.Table.{Table, reading_of}
@@ -95,21 +95,21 @@ outcome_of e p = p ∙ ap verdict_outcome (sym e)
 
 -- ---- by the outcome of the reading
 
-pub plan_refused : (limit : ℕ) (f : Fields) {o : Outcome} {c : Cause} {r : Allocation} → r ≡ refused_plan c → o ≡ outcome.Refused c → r ≡ plan_by limit o f
+pub plan_refused : (limit : ℕ) (f : Fields) {o : Outcome} {c : Cause} {r : Allocation} → r ≡ refused_plan c → o ≡ Err c → r ≡ plan_by limit o f
 unfolding plan_by
 plan_refused limit f w q = w ∙ sym (by_refused refused_plan _ f q)
 
-pub plan_accepted : (limit : ℕ) (f : Fields) {o : Outcome} {r : Allocation} → o ≡ outcome.Accepted → r ≡ plan_for f limit → r ≡ plan_by limit o f
+pub plan_accepted : (limit : ℕ) (f : Fields) {o : Outcome} {r : Allocation} → o ≡ Ok tt → r ≡ plan_for f limit → r ≡ plan_by limit o f
 unfolding plan_by
 plan_accepted limit f q w = w ∙ sym (by_accepted refused_plan _ f q)
 
 -- the plan of a table whose tests accept, and of one that they refuse
 module _ (t : Table) (limit : ℕ) where
-  pub plan_accepted_is : t.outcome ≡ outcome.Accepted → plan_of t limit ≡ plan_for t.fields limit
+  pub plan_accepted_is : t.outcome ≡ Ok tt → plan_of t limit ≡ plan_for t.fields limit
   unfolding plan_of
   plan_accepted_is e = sym (plan_accepted limit t.fields e refl)
 
-  pub plan_refused_is : {c : Cause} → t.outcome ≡ outcome.Refused c → plan_of t limit ≡ refused_plan c
+  pub plan_refused_is : {c : Cause} → t.outcome ≡ Err c → plan_of t limit ≡ refused_plan c
   unfolding plan_of
   plan_refused_is e = sym (plan_refused limit t.fields refl e)
 

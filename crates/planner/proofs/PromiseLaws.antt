@@ -1,4 +1,5 @@
 -- The plan of a valid table keeps demand 2, and the planner accepts exactly the valid tables.
+use Rattle.std.specs.Prelude.{Ok, Err}
 use Prim.Native.Nat.{ℕ, zero, suc, ◌≤◌, ◌<◌}
 use mathlib.Core.Path.{◌≡◌, refl, sym, ◌∙◌, ap}
 use mathlib.Core.Bool.{Bool, true, false, true≢false}
@@ -14,7 +15,6 @@ use Rattle.refusal.specs.Causes.{number_in}
 use Rattle.refusal.proofs.TestLaws.{by_says}
 use Rattle.refusal.proofs.ConditionLaws.{decides}
 use Rattle.refusal.specs.declared.Cause.{Cause}
-use Rattle.refusal.specs.declared.Outcome.TheVariants as outcome
 use Rattle.fields.specs.Limits.{Within}
 use Rattle.taskset.specs.Table.{Table, reading_of, Decided, Sound}
 use Rattle.fields.specs.declared.Fields.{Fields}
@@ -166,17 +166,17 @@ module _ (f : Fields) (w : Within f) where
 
 -- ---- demand 1
 
-pub outcome_planned : (b : Bool) (x : ℕ) → verdict_outcome (verdict_of b x) ≡ outcome.Accepted
+pub outcome_planned : (b : Bool) (x : ℕ) → verdict_outcome (verdict_of b x) ≡ Ok tt
 unfolding verdict_of verdict_outcome
 outcome_planned true x = refl
 outcome_planned false zero = refl
 outcome_planned false (suc x) = refl
 
-pub planned_says : (f : Fields) (limit : ℕ) → verdict_outcome (plan_for f limit).verdict ≡ outcome.Accepted
+pub planned_says : (f : Fields) (limit : ℕ) → verdict_outcome (plan_for f limit).verdict ≡ Ok tt
 unfolding plan_for allocation_of
 planned_says f limit = outcome_planned _ _
 
-refused_says : (c : Cause) → verdict_outcome (refused_plan c).verdict ≡ outcome.Refused c
+refused_says : (c : Cause) → verdict_outcome (refused_plan c).verdict ≡ Err c
 unfolding refused_plan verdict_outcome
 refused_says c = refl
 

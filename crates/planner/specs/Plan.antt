@@ -1,10 +1,9 @@
 -- The exact planner's answer.
-use Rattle.std.specs.Prelude.{ℕ, zero, suc, Bool, true, false, replicate}
+use Rattle.std.specs.Prelude.{ℕ, zero, suc, Bool, true, false, replicate, Ok, Err}
 use Rattle.numbers.specs.Rows.{row, entry}
 use Rattle.refusal.specs.Tests.{by_outcome}
 use Rattle.refusal.specs.declared.Cause.{Cause}
-use Rattle.refusal.specs.declared.Outcome.{Outcome}
-use Rattle.refusal.specs.declared.Outcome.TheVariants as outcome
+use Rattle.refusal.specs.Outcome.{Outcome}
 use Rattle.fields.specs.declared.Fields.{Fields}
 use Rattle.taskset.specs.Table.{Table}
 use Rattle.planning.specs.Problem.{table_problem, order_of}
@@ -47,7 +46,7 @@ plan_of t limit = plan_by limit t.outcome t.fields
 
 -- what a verdict says of the call: through it a verdict has the paper's number and place
 unfoldable pub verdict_outcome : Verdict → Outcome
-verdict_outcome All = outcome.Accepted
-verdict_outcome Short = outcome.Accepted
-verdict_outcome Spent = outcome.Accepted
-verdict_outcome (Refused cause) = outcome.Refused cause
+verdict_outcome All = Ok tt
+verdict_outcome Short = Ok tt
+verdict_outcome Spent = Ok tt
+verdict_outcome (Refused cause) = Err cause

@@ -8,7 +8,7 @@ ghost use Rattle.oldform.specs.Limits.{beside};
 ghost use Rattle.planner.specs.Plan.{verdict_of, plan_for, refused_plan, plan_by, plan_of, verdict_outcome};
 ghost use Rattle.planner.specs.Promise.{Plans};
 
-use refusal::{Cause, Outcome};
+use refusal::Cause;
 use taskset::{Reading, TaskSet};
 
 // What the planner says of a plan.
@@ -47,14 +47,14 @@ fn verdict_of(spent: bool, rejected: u32) -> Verdict
 }
 
 // What a verdict says of the call.
-pub fn verdict_outcome(verdict: Verdict) -> Outcome
+pub fn verdict_outcome(verdict: Verdict) -> Result<(), Cause>
     ensures { result ≡ verdict_outcome verdict }
 {
     match verdict {
-        Verdict::All => Outcome::Accepted,
-        Verdict::Short => Outcome::Accepted,
-        Verdict::Spent => Outcome::Accepted,
-        Verdict::Refused(cause) => Outcome::Refused(cause),
+        Verdict::All => Ok(()),
+        Verdict::Short => Ok(()),
+        Verdict::Spent => Ok(()),
+        Verdict::Refused(cause) => Err(cause),
     }
 }
 
@@ -70,23 +70,22 @@ fn refused(cause: Cause) -> Allocation
     }
 }
 
-// The plan of a checked task set: the walk over its tasks in planning order.
+// The plan of a checked task set: the walk over its tasks in planning order. The rows are put into that order here and not by
+// `planning::prepare`: handed back in one struct they are copied twice more, and the firmware's entry has little stack.
 pub fn plan_tasks(t: TaskSet, limit: u32) -> Allocation
     requires { Checked t }
     ensures { result ≡ plan_for t.fields limit }
 {
     let n = t.fields.n;
     let order = ordering::planning_order(t);
-    let prepared = planning::prepare(t, order);
-    let demands = prepared.demands;
-    let permitted = prepared.affinity;
-    let found = search::search(demands, permitted, n, t.fields.m, t.hyperperiod, limit);
-    let choices = found.placement;
-    let placement = reorder::in_table_order(choices, order, n);
+    let demands = reorder::in_planning_order(0, t.demands, order, n);
+    let affinity = reorder::in_planning_order(0, t.fields.affinity, order, n);
+    let found = search::search(demands, affinity, n, t.fields.m, t.hyperperiod, limit);
+    let placement = reorder::in_table_order(found.placement, order, n);
     let verdict = verdict_of(found.spent, found.rejected);
     Allocation {
-        verdict: verdict,
-        placement: placement,
+        verdict,
+        placement,
         rejected: found.rejected,
         steps: found.steps,
     }
@@ -97,10 +96,9 @@ pub fn plan_read(reading: Reading, limit: u32) -> Allocation
     requires { Reads reading }
     ensures { result ≡ plan_by limit reading.outcome reading.tasks.fields }
 {
-    let outcome = reading.outcome;
-    match outcome {
-        Outcome::Refused(cause) => refused(cause),
-        Outcome::Accepted => plan_tasks(reading.tasks, limit),
+    match reading.outcome {
+        Err(cause) => refused(cause),
+        Ok(()) => plan_tasks(reading.tasks, limit),
     }
 }
 

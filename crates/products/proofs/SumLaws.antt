@@ -1,6 +1,6 @@
 -- The sum of products on its way, and what it comes to.
 use Prim.Native.Nat.{ℕ, suc, pred, ◌+◌, ◌*◌, ◌-◌, ◌≤◌, ◌<◌}
-use native.Mathlib.Nat.{le_trans}
+use native.Mathlib.Nat.{le_trans, mul_comm}
 use native.Mathlib.Numerals.{add-one}
 use native.Mathlib.Omega.{arith}
 use mathlib.Core.Path.{◌≡◌, refl, sym, ap, ap₂, ◌∙◌}
@@ -80,29 +80,28 @@ module _ {tied : Bool} {affinity : List ℕ} {m n s p k : ℕ} (a : Adding tied 
   unfolding factor_for
   factor_is = rw (e, add-one k, get_or-take n affinity k 0 l)
 
-  next_product : x * p ≡ product_from_one f (suc k)
+  next_product : p * x ≡ product_from_one f (suc k)
   unfolding product_to
-  next_product = ap₂ ◌*◌ factor_is a.product_is
+  next_product = mul_comm p x ∙ ap₂ ◌*◌ factor_is a.product_is
 
-  pub product_fits : x * p < 18446744073709551616
+  pub product_fits : p * x < 18446744073709551616
   product_fits = omega (arith, next_product, product_small f small (suc k) (omega (arith, a.few)))
 
-  module _ {q : ℕ} (w : q ≡ x * p) where
-    next_sum : s + q ≡ sum_of_products f (suc k)
-    unfolding sum_of_products sum_to
-    next_sum = omega (arith, w, next_product, a.sum_is)
+  next_sum : s + p * x ≡ sum_of_products f (suc k)
+  unfolding sum_of_products sum_to
+  next_sum = omega (arith, next_product, a.sum_is)
 
-    pub sum_fits : s + q < 18446744073709551616
-    sum_fits = omega (arith, next_sum, sum_small f small (suc k) (omega (arith, a.few)))
+  pub sum_fits : s + p * x < 18446744073709551616
+  sum_fits = omega (arith, next_sum, sum_small f small (suc k) (omega (arith, a.few)))
 
-    pub add_next : Adding tied affinity m n (s + q) q (k + 1)
-    add_next = record {
-      few_cores = a.few_cores;
-      few = a.few;
-      top = omega arith;
-      sum_is = next_sum ∙ ap (sum_of_products f) (sym (add-one k));
-      product_is = w ∙ next_product ∙ ap (product_from_one f) (sym (add-one k));
-    }
+  pub add_next : Adding tied affinity m n (s + p * x) (p * x) (k + 1)
+  add_next = record {
+    few_cores = a.few_cores;
+    few = a.few;
+    top = omega arith;
+    sum_is = next_sum ∙ ap (sum_of_products f) (sym (add-one k));
+    product_is = next_product ∙ ap (product_from_one f) (sym (add-one k));
+  }
 
 pub add_done : {tied : Bool} {affinity : List ℕ} {m n s p k : ℕ} → Adding tied affinity m n s p k → n ≤ k
     → s ≡ sum_of_products (factor_for tied (take n affinity) m) n

@@ -1,5 +1,5 @@
 -- The list is that of the divisors of 10,000.
-use Prim.Native.Nat.{ℕ, zero, suc, ◌+◌, ◌*◌, ◌/◌, ◌%◌, ◌≤◌, ◌<◌, ◌∣◌}
+use Prim.Native.Nat.{ℕ, zero, suc, ◌*◌, ◌/◌, ◌%◌, ◌≤◌, ◌<◌, ◌∣◌}
 use mathlib.Core.Path.{◌≡◌, refl, sym, ◌∙◌, ap}
 use mathlib.Core.Bool.{Bool, false, not, ◌&&◌, ◌||◌}
 use mathlib.Core.Logic.{◌↔◌, ◌≢◌, by_cases}
@@ -7,12 +7,12 @@ use lib.Dec.{eqb}
 use native.Mathlib.Decide.{dec_lt}
 use native.Mathlib.Nat.{dvd_of_mod-eq-zero, mod-eq-zero_of_dvd, dvd-mul_right, div-mul_cancel, mul-div_cancel_left, mul-le-mul_right, pos_of_dvd_of_pos}
 use native.Mathlib.Omega.{arith}
-use borrow.Author.Tests.{eqb-true, eqb-false, eq-eqb, ne_eqb, not-false}
+use borrow.Author.Tests.{eqb-true, eqb-false, eq-eqb, not-false}
 use Rattle.numbers.specs.First.{first_from, first}
 use Rattle.numbers.specs.Multiples.{IsLcm}
 use Rattle.numbers.specs.Rows.{entry}
 use Rattle.numbers.proofs.BoolLaws.{or_false_left, or_false_right}
-use Rattle.numbers.proofs.FirstLaws.{Seeking, looked_on, looked_found, seek_none, first_zero, first_is}
+use Rattle.numbers.proofs.FirstLaws.{first_zero, first_is}
 use Rattle.profile.specs.Periods.{bus_periods, is_entry, bus_place, Listed}
 
 -- ---- each entry divides 10,000
@@ -88,21 +88,6 @@ listed_exactly period some = (listed_divides period, λ d. (place_listed period)
 
 pub placed_exactly : (period : ℕ) {place : ℕ} → place ≡ bus_place period → 1 ≤ period → (place ≢ 0) ↔ (period ∣ 10000)
 placed_exactly period e some = rw e (λ n. listed_divides period ((place_listed period).0 n), divisor_placed period some)
-
--- ---- the steps of the search
-
-module _ (period k : ℕ) (s : Seeking (is_entry period) 25 k) where
-  pub place_found : k < 25 → entry bus_periods k ≡ period → k + 1 ≡ bus_place period
-  unfolding bus_place is_entry
-  place_found h e = looked_found s h refl (eq-eqb _ _ e)
-
-  pub place_on : k < 25 → entry bus_periods k ≢ period → Seeking (is_entry period) 25 (k + 1)
-  unfolding is_entry
-  place_on h n = looked_on s h refl (ne_eqb _ _ n)
-
-  pub place_none : 25 ≤ k → 0 ≡ bus_place period
-  unfolding bus_place
-  place_none h = seek_none s h
 
 -- what is promised of a place
 pub place_all : (period : ℕ) {place : ℕ} → place ≡ bus_place period → (place ≡ bus_place period) × (1 ≤ period → (place ≢ 0) ↔ (period ∣ 10000))

@@ -1,15 +1,13 @@
 -- The test of the list is that of its condition; where every period is in the list, number 7 does not hold.
-use Prim.Native.Nat.{ℕ, ◌+◌, ◌<◌}
-use mathlib.Core.Path.{◌≡◌, refl, sym, ◌∙◌}
+use Prim.Native.Nat.{ℕ, ◌<◌}
+use mathlib.Core.Path.{◌≡◌, refl}
 use mathlib.Core.Bool.{true}
 use mathlib.Core.List.{[], ◌∷◌}
-use mathlib.Core.Logic.{◌↔◌, ◌≢◌}
+use mathlib.Core.Logic.{◌↔◌}
 use native.Mathlib.Nat.{le_of_dvd}
 use native.Mathlib.Omega.{arith}
-use borrow.Author.Tests.{eqb-true, eq-eqb, ne_eqb}
-use Rattle.numbers.specs.First.{first}
+use borrow.Author.Tests.{eqb-true, eq-eqb}
 use Rattle.numbers.proofs.BoundLaws.{not_unequal}
-use Rattle.numbers.proofs.FirstLaws.{Seeking, looked_on, looked_found}
 use Rattle.refusal.specs.Conditions.{Fails, Reports}
 use Rattle.refusal.specs.declared.Cause.TheVariants.{BusPeriod}
 use Rattle.refusal.proofs.ConditionLaws.{test_at}
@@ -38,13 +36,3 @@ module _ (f : Fields) where
   pub never_above : Fails (period_unlisted f) → Fails (multiple_above f)
   never_above n k h x =
       omega (arith, le_of_dvd (omega arith) (listed_multiple (period_at f) _ x.0 (λ j b. all_listed.0 n j (omega (arith, b, h))) x.1), x.2)
-
--- The steps of the search for the first such task.
-module _ (f : Fields) {k place : ℕ} (s : Seeking (unlisted f) f.n k) (h : k < f.n) (e : place ≡ bus_place (period_at f k)) where
-  pub unlisted_found : place ≡ 0 → k + 1 ≡ first (unlisted f) f.n
-  unfolding unlisted
-  unlisted_found z = looked_found s h refl (eq-eqb _ 0 (sym e ∙ z))
-
-  pub unlisted-on : place ≢ 0 → Seeking (unlisted f) f.n (k + 1)
-  unfolding unlisted
-  unlisted-on n = looked_on s h refl (ne_eqb _ 0 (λ z. n (e ∙ z)))

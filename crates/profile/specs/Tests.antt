@@ -4,7 +4,7 @@ use Rattle.numbers.specs.First.{first}
 use Rattle.refusal.specs.Tests.{refuse_at}
 use Rattle.refusal.specs.Conditions.{Condition, at}
 use Rattle.refusal.specs.declared.Cause.TheVariants.{BusPeriod}
-use Rattle.refusal.specs.declared.Outcome.{Outcome}
+use Rattle.refusal.specs.Outcome.{Outcome}
 use Rattle.fields.specs.Fields.{period_at}
 use Rattle.fields.specs.declared.Fields.{Fields}
 use Rattle.profile.specs.Periods.{bus_place, Listed}

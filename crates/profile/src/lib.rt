@@ -3,12 +3,11 @@
 
 ghost use Rattle.std.specs.Prelude.{◌≡◌, ◌↔◌, ◌≢◌, ◌≤◌};
 ghost use Rattle.std.specs.Int.{◌∣◌};
-ghost use Rattle.numbers.specs.First.{first};
 ghost use Rattle.profile.specs.Periods.{bus_place};
-ghost use Rattle.profile.specs.Tests.{unlisted, list_test};
+ghost use Rattle.profile.specs.Tests.{list_test};
 
 use fields::Fields;
-use refusal::{Cause, Outcome};
+use refusal::Cause;
 
 // The periods that a table for bus drives may use: the divisors of 10,000.
 const BUS_PERIODS: [u32; 25] = [
@@ -21,36 +20,16 @@ pub fn bus_place(period: u32) -> usize
     ensures answer { result ≡ bus_place period }
     ensures divides { 1 ≤ period → (result ≢ 0) ↔ (period ∣ 10000) }
 {
-    let mut i = 0;
-    while i < 25 {
-        if BUS_PERIODS[i] == period {
-            return i + 1;
-        }
-        i += 1;
-    }
-    0
-}
-
-// The first task, from 1, whose period is not in the list; 0 if there is none.
-fn first_unlisted(f: Fields) -> usize
-    requires { f.n ≤ 16 }
-    ensures { result ≡ first (unlisted f) f.n }
-{
-    let mut k = 0;
-    while k < f.n {
-        if bus_place(f.periods[k]) == 0 {
-            return k + 1;
-        }
-        k += 1;
-    }
-    0
+    numbers::first(25, |i| BUS_PERIODS[i] == period).unwrap_or(0)
 }
 
 // Number 22.
-pub fn list_test(f: Fields) -> Outcome
+pub fn list_test(f: Fields) -> Result<(), Cause>
     requires { f.n ≤ 16 }
     ensures { result ≡ list_test f }
 {
-    let task = first_unlisted(f);
-    refusal::refuse_if(task != 0, Cause::BusPeriod(task))
+    refusal::refuse_at(
+        numbers::first(f.n, |k| bus_place(f.periods[k]) == 0),
+        Cause::BusPeriod,
+    )
 }

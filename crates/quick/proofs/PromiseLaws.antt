@@ -1,4 +1,5 @@
 -- The quick plan keeps what is promised of it, and is accepted exactly for valid tables.
+use Rattle.std.specs.Prelude.{Ok, Err}
 use Prim.Native.Nat.{ℕ, ◌≤◌, zero-le}
 use mathlib.Core.Path.{◌≡◌, refl, sym, ◌∙◌, ap}
 use mathlib.Core.Logic.{◌≢◌}
@@ -10,7 +11,6 @@ use Rattle.refusal.proofs.CauseLaws.{number_range}
 use Rattle.refusal.proofs.TestLaws.{accepted≢refused, by_both, by_says}
 use Rattle.refusal.proofs.ConditionLaws.{decides}
 use Rattle.refusal.specs.declared.Cause.{Cause}
-use Rattle.refusal.specs.declared.Outcome.TheVariants.{Accepted, Refused}
 use Rattle.taskset.specs.Demands.{load_on}
 use Rattle.fields.specs.Limits.{Within}
 use Rattle.taskset.specs.Table.{Table, reading_of, Decided, Sound}
@@ -90,7 +90,7 @@ module _ {t : Table} (s : Sound t) where
   f = t.fields
 
   -- of a refused table
-  refused_fits : (c : Cause) → t.outcome ≡ Refused c → Fits t (refused_quick c)
+  refused_fits : (c : Cause) → t.outcome ≡ Err c → Fits t (refused_quick c)
   unfolding refused_quick refused_plan
   refused_fits c e = record {
     safe = λ v. absurd (accepted≢refused ((table_accepts s).1 v) e);
@@ -106,7 +106,7 @@ module _ {t : Table} (s : Sound t) where
   }
 
   -- and of an accepted one
-  accepted_fits : t.outcome ≡ Accepted → Fits t (quick_for f)
+  accepted_fits : t.outcome ≡ Ok tt → Fits t (quick_for f)
   accepted_fits e =
       let w : Within f = table_within s e in
       record {

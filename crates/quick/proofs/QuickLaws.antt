@@ -1,4 +1,5 @@
 -- The steps of the quick plan make the one that its definition names.
+use Rattle.std.specs.Prelude.{Ok, Err}
 use Prim.Native.Nat.{ℕ}
 use mathlib.Core.Path.{◌≡◌, refl, sym, ◌∙◌, ap}
 use mathlib.Core.List.{List}
@@ -6,8 +7,7 @@ use lib.ListN.{take}
 use Rattle.numbers.specs.Reorder.{scatter}
 use Rattle.numbers.specs.Rows.{row, entry}
 use Rattle.refusal.specs.declared.Cause.{Cause}
-use Rattle.refusal.specs.declared.Outcome.{Outcome}
-use Rattle.refusal.specs.declared.Outcome.TheVariants as outcome
+use Rattle.refusal.specs.Outcome.{Outcome}
 use Rattle.refusal.proofs.TestLaws.{by_accepted, by_refused}
 use Rattle.taskset.specs.Promise.{Checked}
 use Rattle.taskset.specs.Table.{Table}
@@ -36,25 +36,25 @@ module _ {t : TaskSet} (c : Checked t) {o : List ℕ} {p : Prepared} (s : Prepar
   P = in_planning_order (table_problem t.fields) (order_of t.fields)
 
   pub quick_is : {q : List ℕ} → q ≡ row 0 t.fields.n (entry (scatter (take t.fields.n o) found.placement))
-      → ◌≡◌ {A = QuickPlan} (record { outcome = outcome.Accepted; placement = q; rejected = found.rejected }) (quick_for t.fields)
+      → ◌≡◌ {A = QuickPlan} (record { outcome = Ok tt; placement = q; rejected = found.rejected }) (quick_for t.fields)
   unfolding quick_for quick_placement table_fit found_of fit_answer
   quick_is x =
       let r : found.rejected ≡ rejected (table_problem t.fields) (scatter (order_of t.fields) (first_fit P)) =
       ap (λ g. g.rejected) (found_is fit_answer s w)
       ∙ sym (rejected-scatter (table_problem t.fields) (order_of t.fields) (order_permutation t.fields c.within) (first_fit P) (first_feasible P)) in
-      λ i. record { outcome = outcome.Accepted; placement = found_back fit_answer s w x i; rejected = r i }
+      λ i. record { outcome = Ok tt; placement = found_back fit_answer s w x i; rejected = r i }
 
 -- ---- by the outcome of the reading
 
-pub quick_refused : (f : Fields) {o : Outcome} {c : Cause} {r : QuickPlan} → r ≡ refused_quick c → o ≡ outcome.Refused c → r ≡ quick_by o f
+pub quick_refused : (f : Fields) {o : Outcome} {c : Cause} {r : QuickPlan} → r ≡ refused_quick c → o ≡ Err c → r ≡ quick_by o f
 unfolding quick_by
 quick_refused f w q = w ∙ sym (by_refused refused_quick quick_for f q)
 
-pub quick_accepted : (f : Fields) {o : Outcome} {r : QuickPlan} → o ≡ outcome.Accepted → r ≡ quick_for f → r ≡ quick_by o f
+pub quick_accepted : (f : Fields) {o : Outcome} {r : QuickPlan} → o ≡ Ok tt → r ≡ quick_for f → r ≡ quick_by o f
 unfolding quick_by
 quick_accepted f q w = w ∙ sym (by_accepted refused_quick quick_for f q)
 
 -- the quick plan of a table whose tests accept
-pub quick_accepted_is : (t : Table) → t.outcome ≡ outcome.Accepted → quick_of t ≡ quick_for t.fields
+pub quick_accepted_is : (t : Table) → t.outcome ≡ Ok tt → quick_of t ≡ quick_for t.fields
 unfolding quick_of
 quick_accepted_is t e = sym (quick_accepted t.fields e refl)

@@ -8,13 +8,13 @@ ghost use Rattle.oldform.specs.Limits.{beside};
 ghost use Rattle.quick.specs.Quick.{quick_for, refused_quick, quick_by, quick_of};
 ghost use Rattle.quick.specs.Promise.{Fits};
 
-use refusal::{Cause, Outcome};
+use refusal::Cause;
 use taskset::{Reading, TaskSet};
 
 // The answer: for each task in table order its core, from 1, or 0 for left out, entries beyond n 0; and the left-out weight.
 #[derive(Clone, Copy)]
 pub struct QuickPlan {
-    pub outcome: Outcome,
+    pub outcome: Result<(), Cause>,
     pub placement: [u8; 16],
     pub rejected: u32,
 }
@@ -24,7 +24,7 @@ fn refused(cause: Cause) -> QuickPlan
     ensures { result ≡ refused_quick cause }
 {
     QuickPlan {
-        outcome: Outcome::Refused(cause),
+        outcome: Err(cause),
         placement: [0; 16],
         rejected: 0,
     }
@@ -44,7 +44,7 @@ pub fn quick_tasks(t: TaskSet) -> QuickPlan
     let choices = found.placement;
     let placement = reorder::in_table_order(choices, order, n);
     QuickPlan {
-        outcome: Outcome::Accepted,
+        outcome: Ok(()),
         placement: placement,
         rejected: found.rejected,
     }
@@ -55,10 +55,9 @@ pub fn quick_read(reading: Reading) -> QuickPlan
     requires { Reads reading }
     ensures { result ≡ quick_by reading.outcome reading.tasks.fields }
 {
-    let outcome = reading.outcome;
-    match outcome {
-        Outcome::Refused(cause) => refused(cause),
-        Outcome::Accepted => quick_tasks(reading.tasks),
+    match reading.outcome {
+        Err(cause) => refused(cause),
+        Ok(()) => quick_tasks(reading.tasks),
     }
 }
 

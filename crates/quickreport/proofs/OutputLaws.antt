@@ -1,11 +1,11 @@
 -- The whole output is the one that the definition gives.
+use Rattle.std.specs.Prelude.{Ok, Err}
 use Prim.Native.Nat.{ℕ}
 use mathlib.Core.Path.{◌≡◌, refl, sym, ◌∙◌, ap, ap₂}
 use mathlib.Core.List.{List, []}
 use native.Mathlib.Omega.{arith}
 use Rattle.refusal.specs.declared.Cause.{Cause}
-use Rattle.refusal.specs.declared.Outcome.{Outcome}
-use Rattle.refusal.specs.declared.Outcome.TheVariants as outcome
+use Rattle.refusal.specs.Outcome.{Outcome}
 use Rattle.taskset.specs.Reading.{task_set_of}
 use Rattle.fields.specs.declared.Fields.{Fields}
 use Rattle.taskset.specs.declared.TaskSet.{TaskSet}
@@ -37,10 +37,10 @@ unfolding quick_lines
 plan_whole s plan e p q = append_whole e (append_both p q) (omega arith)
 
 -- The outcome of a quick plan of a checked task set is no refusal.
-pub never_refused : (f : Fields) {plan : QuickPlan} {o : Outcome} {cause : Cause} → plan ≡ quick_for f → plan.outcome ≡ o → o ≡ outcome.Refused cause → ⊥
+pub never_refused : (f : Fields) {plan : QuickPlan} {o : Outcome} {cause : Cause} → plan ≡ quick_for f → plan.outcome ≡ o → o ≡ Err cause → ⊥
 unfolding quick_for
 never_refused f {plan} e q h =
-    let a : plan.outcome ≡ outcome.Accepted = rw e in
+    let a : plan.outcome ≡ Ok tt = rw e in
     let z : ◌≡◌ {A = ℕ} 0 1 = cc in
     omega arith
 

@@ -7,7 +7,6 @@ ghost use Rattle.text.specs.Shown.{shown, Appended};
 ghost use Rattle.quickreport.specs.Output.{quick_summary, quick_lines, quick_output_of, Reported, QuickReadBack};
 
 use quick::QuickPlan;
-use refusal::Outcome;
 use taskset::TaskSet;
 use text::Text;
 
@@ -16,7 +15,7 @@ fn append_summary(t: Text, plan: QuickPlan) -> Text
     ensures { Appended t (quick_summary plan) 27 result }
 {
     let word = text::append_bytes(t, b"quick");
-    let rejected = decimal::append_field(word, plan.rejected as u64);
+    let rejected = decimal::append_field(word, u64::from(plan.rejected));
     text::append_bytes(rejected, b"\n")
 }
 
@@ -25,9 +24,7 @@ fn plan_report(t: TaskSet, plan: QuickPlan) -> Text
     requires { t.fields.n ≤ 16 }
     ensures { shown result ≡ quick_lines t plan }
 {
-    let nothing = text::empty();
-    let cores = plan.placement;
-    let table = listing::append_table(nothing, t, cores);
+    let table = listing::append_table(text::empty(), t, plan.placement);
     append_summary(table, plan)
 }
 
@@ -39,12 +36,12 @@ pub fn report(table: &[u8]) -> Text
 {
     let reading = newform::read_new(table);
     let outcome = reading.outcome;
-    let Outcome::Accepted = outcome else {
+    let Ok(()) = outcome else {
         return listing::refusal_report(outcome);
     };
     let plan = quick::quick_tasks(reading.tasks);
     let answer = plan.outcome;
-    let Outcome::Accepted = answer else {
+    let Ok(()) = answer else {
         return listing::refusal_report(answer);
     };
     plan_report(reading.tasks, plan)

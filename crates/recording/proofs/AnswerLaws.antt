@@ -1,22 +1,21 @@
 -- The pass over the answers, and the writer's tests made in order.
 use mathlib.Core.Path.{◌≡◌, refl, sym, ◌∙◌, ap}
 use mathlib.Core.List.{List, [], ◌∷◌}
-use mathlib.Core.Bool.{not}
-use Prim.Native.Nat.{ℕ, zero, suc, ◌+◌, ◌≤◌, ◌<◌}
+use Prim.Native.Nat.{ℕ, suc, ◌+◌, ◌≤◌, ◌<◌}
 use native.Mathlib.Omega.{arith}
 use borrow.Author.Tests.{ltb-false, lt-ltb, le-ltb, eq-eqb, ne_eqb}
-use lib.Dec.{eqb, ltb}
+use lib.Dec.{ltb}
 use lib.ListN.{length, drop, drop_of_length-le}
 use lib.Seq.{drop-cons}
+use Rattle.std.specs.Prelude.{Ok, Err}
 use Rattle.numbers.specs.First.{first}
 use Rattle.numbers.specs.Rows.{entry}
 use Rattle.numbers.proofs.FirstLaws.{Seeking, seek_start, seek_none, looked_on, looked_found, first_zero}
 use Rattle.refusal.specs.Tests.{◌then◌, refuse_if, refuse_at, room_test, by_outcome}
 use Rattle.refusal.specs.declared.Cause.{Cause}
 use Rattle.refusal.specs.declared.Cause.TheVariants.{Answer, LogRoom}
-use Rattle.refusal.specs.declared.Outcome.{Outcome}
-use Rattle.refusal.specs.declared.Outcome.TheVariants.{Accepted, Refused}
-use Rattle.refusal.proofs.TestLaws.{then_first, then_refused, refuse_at_by}
+use Rattle.refusal.specs.Outcome.{Outcome}
+use Rattle.refusal.proofs.TestLaws.{then_first, then_refused, refuse_found, refuse_at_zero}
 use Rattle.runs.specs.declared.Logged.{Logged}
 use Rattle.runs.specs.Runs.{runs}
 use Rattle.runs.specs.Lent.{logged_by}
@@ -36,9 +35,9 @@ pub survey_start : (xs : List ℕ) → Surveying xs 0 17 0
 survey_start xs = record { top = omega arith; few = omega arith; seeks = seek_start (above_at xs) (length xs); counts = omega arith }
 
 module _ {xs : List ℕ} {n before k : ℕ} (s : Surveying xs n before k) where
-  pub survey_above : k < length xs → 16 < entry xs k → Surveyed xs (k + 1) 0
+  pub survey_above : k < length xs → 16 < entry xs k → Surveyed xs (Err (k + 1))
   unfolding above_at
-  survey_above h g = (looked_found s.seeks h (sym (lt-ltb 16 (entry xs k) g)) refl, λ (z : k + 1 ≡ 0). absurd (omega (arith, z)))
+  survey_above h g = (omega arith, looked_found s.seeks h (sym (lt-ltb 16 (entry xs k) g)) refl)
 
   seeks_on : k < length xs → entry xs k ≤ 16 → Seeking (above_at xs) (length xs) (k + 1)
   unfolding above_at
@@ -69,39 +68,37 @@ begins (b ∷ xs) z =
     let low = ltb-false 16 b (first_zero (above_at (b ∷ xs)) (length (b ∷ xs)) (sym z) 0 (omega arith)) in
     rw (ne_eqb 17 b (λ (e : 17 ≡ b). omega (arith, e, low)))
 
-pub survey_done : {xs : List ℕ} {n before k : ℕ} → Surveying xs n before k → length xs ≤ k → Surveyed xs 0 n
+pub survey_done : {xs : List ℕ} {n before k : ℕ} → Surveying xs n before k → length xs ≤ k → Surveyed xs (Ok n)
 survey_done {xs} {n} {before} {k} s h =
     let none = seek_none s.seeks h in
     let all : n + 0 ≡ changes 17 xs = ap (λ (l : List ℕ). n + changes before l) (sym (drop_of_length-le xs h)) ∙ s.counts in
     let b = begins xs none in
     let m = runs-needed xs in
-    (none, λ _. omega (arith, all, b, m))
+    (sym none, omega (arith, all, b, m))
 
 -- ---- the answer
 
 module _ (xs : List ℕ) (room : ℕ) where
   -- too many answers: nothing else is looked at
-  pub write_long : {o : Outcome} {c : Cause} {r : Logged} → o ≡ refuse_if (ltb 60000 (length xs)) (Answer 0) → o ≡ Refused c → r ≡ logged_by o 0 → r ≡ write_answer xs room
+  pub write_long : {o : Outcome} {c : Cause} {r : Logged} → o ≡ refuse_if (ltb 60000 (length xs)) (Answer 0) → o ≡ Err c → r ≡ logged_by o 0 → r ≡ write_answer xs room
   unfolding write_answer write_outcome answers_test logged_by by_outcome
   write_long {c = c} e f g =
-      let first-test : refuse_if (ltb 60000 (length xs)) (Answer 0) ≡ Refused c = sym e ∙ f in
+      let first-test : refuse_if (ltb 60000 (length xs)) (Answer 0) ≡ Err c = sym e ∙ f in
       g ∙ ap (λ p. logged_by p 0) f ∙ ap (λ p. logged_by p (length (runs xs))) (sym (ap (λ p. p then room_test LogRoom (length (runs xs)) room) (then_refused _ _ c first-test) ∙ then_refused _ _ c refl))
 
-  -- an answer above 16 is refused whatever was counted, and else the room decides
-  found_alike : (k n m : ℕ) (o p : Outcome) → logged_by (refuse_at (suc k) Answer then o) n ≡ logged_by (refuse_at (suc k) Answer then p) m
-  unfolding logged_by by_outcome ◌then◌ refuse_at
-  found_alike k n m o p = refl
+  -- an answer above 16: nothing else is counted
+  pub write_above : {o : Outcome} {k : ℕ} {r : Logged} → o ≡ refuse_if (ltb 60000 (length xs)) (Answer 0) → o ≡ Ok tt → Surveyed xs (Err k)
+      → r ≡ logged_by (Err (Answer k)) 0 → r ≡ write_answer xs room
+  unfolding write_answer write_outcome answers_test logged_by by_outcome ◌then◌
+  write_above {k = k} e f found g =
+      let test : refuse_at (first (above_at xs) (length xs)) Answer ≡ Err (Answer k) =
+      (rw (← found.1) (refuse_found k Answer (λ z. omega (arith, z, found.0)))) in
+      g ∙ rw (sym e ∙ f, test)
 
-  both : (k n : ℕ) → k ≡ first (above_at xs) (length xs) → (k ≡ 0 → n ≡ length (runs xs))
-      → logged_by (refuse_at k Answer then room_test LogRoom n room) n ≡ logged_by (refuse_at k Answer then room_test LogRoom (length (runs xs)) room) (length (runs xs))
-  both zero n e h = ap (λ m. logged_by (refuse_at 0 Answer then room_test LogRoom m room) m) (h refl)
-  both (suc k) n e h = found_alike k _ _ _ _
-
-  pub write_found : {o t u p : Outcome} {k n : ℕ} {r : Logged} → o ≡ refuse_if (ltb 60000 (length xs)) (Answer 0) → o ≡ Accepted → Surveyed xs k n
-      → t ≡ refuse_if (not (eqb k 0)) (Answer k) → u ≡ room_test LogRoom n room → p ≡ t then u → r ≡ logged_by p n → r ≡ write_answer xs room
+  -- none is: the room decides
+  pub write_counted : {o u : Outcome} {n : ℕ} {r : Logged} → o ≡ refuse_if (ltb 60000 (length xs)) (Answer 0) → o ≡ Ok tt → Surveyed xs (Ok n)
+      → u ≡ room_test LogRoom n room → r ≡ logged_by u n → r ≡ write_answer xs room
   unfolding write_answer write_outcome answers_test
-  write_found {u = u} {k = k} {n} e f found t-is u-is p-is r-is =
-      r-is ∙ ap (λ q. logged_by q n) (p-is ∙ ap (λ q. q then u) (refuse_at_by Answer t-is refl) ∙ ap (λ q. refuse_at k Answer then q) u-is)
-      ∙ both k n found.0 found.1
-      ∙ ap (λ j. logged_by (refuse_at j Answer then room_test LogRoom (length (runs xs)) room) (length (runs xs))) found.0
-      ∙ ap (λ q. logged_by (q then room_test LogRoom (length (runs xs)) room) (length (runs xs))) (sym (then_first _ _ (sym e ∙ f)))
+  write_counted e f found u-is r-is =
+      let test : refuse_at (first (above_at xs) (length xs)) Answer ≡ Ok tt = refuse_at_zero _ Answer found.0 in
+      rw (u-is, found.1) at r-is ∙ ap (λ q. logged_by q (length (runs xs))) (sym (then_first _ _ (then_first _ _ (sym e ∙ f) ∙ test)))

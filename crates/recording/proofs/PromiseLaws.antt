@@ -1,4 +1,5 @@
 -- The writer refuses by its conditions, and keeps its promise.
+use Rattle.std.specs.Prelude.{Ok, Err}
 use mathlib.Core.Path.{◌≡◌, refl, sym, ◌∙◌, ap, subst}
 use mathlib.Core.List.{List, [], ◌∷◌, ◌++◌}
 use mathlib.Core.Logic.{⊎_elim}
@@ -13,7 +14,6 @@ use Rattle.refusal.specs.Conditions.{only, at, no_room, Reports, Tested, Decides
 use Rattle.refusal.specs.Tests.{room_test}
 use Rattle.refusal.specs.declared.Cause.{Cause}
 use Rattle.refusal.specs.declared.Cause.TheVariants.{Answer, LogRoom}
-use Rattle.refusal.specs.declared.Outcome.TheVariants.{Accepted, Refused}
 use Rattle.refusal.proofs.TestLaws.{outcome_cases}
 use Rattle.refusal.proofs.ConditionLaws.{test_only, test_at, then_reports, decides, no_number, some_number, accepts}
 use Rattle.runs.specs.declared.Run.{Run}
@@ -57,10 +57,10 @@ module _ (xs : List ℕ) (room : ℕ) where
   pub write_decides : {answer : Logged} → answer ≡ write_answer xs room → Decides (Writable xs room) (write_conditions xs room) answer.outcome
   write_decides e = subst (Decides (Writable xs room) (write_conditions xs room)) (sym (said e)) (decides write_tested)
 
-  pub writable : write_outcome xs room ≡ Accepted → Writable xs room
+  pub writable : write_outcome xs room ≡ Ok tt → Writable xs room
   writable e = (accepts (decides write_tested)).0 e
 
-  pub write_accepts : Writable xs room → write_outcome xs room ≡ Accepted
+  pub write_accepts : Writable xs room → write_outcome xs room ≡ Ok tt
   write_accepts v = (accepts (decides write_tested)).1 v
 
   pub write_said : (write_answer xs room).outcome ≡ write_outcome xs room
@@ -80,7 +80,7 @@ low_entry (b ∷ xs) l zero h = l.0
 low_entry (b ∷ xs) l (suc k) h = low_entry xs l.1 k (omega (arith, h))
 
 -- the front of the row where the answers are accepted
-pub log_front : (xs : List ℕ) (before : List Run) → write_outcome xs (length before) ≡ Accepted → take (write_answer xs (length before)).count (log_after xs before) ≡ runs xs
+pub log_front : (xs : List ℕ) (before : List Run) → write_outcome xs (length before) ≡ Ok tt → take (write_answer xs (length before)).count (log_after xs before) ≡ runs xs
 log_front xs before e =
     ap (λ (n : ℕ). take n (log_after xs before)) (count_accepted xs (length before) e) ∙ ap (take (length (runs xs))) (log_accepted xs before e)
     ∙ take_at (runs xs) (drop (length (runs xs)) before) (length (runs xs)) refl
@@ -89,7 +89,7 @@ module _ (xs : List ℕ) (before : List Run) {answer : Logged} {after : List Run
   counts : answer.count ≡ (write_answer xs (length before)).count
   counts = ap (λ (a : Logged). a.count) ea
 
-  module _ (e : write_outcome xs (length before) ≡ Accepted) where
+  module _ (e : write_outcome xs (length before) ≡ Ok tt) where
     w : Writable xs (length before)
     w = writable xs (length before) e
 
@@ -114,14 +114,14 @@ module _ (xs : List ℕ) (before : List Run) {answer : Logged} {after : List Run
     long_there : length after ≡ length before
     long_there = ap (λ (l : List Run). length l) stands ∙ as_long (runs xs) before fits
 
-  module _ (c : Cause) (e : write_outcome xs (length before) ≡ Refused c) where
+  module _ (c : Cause) (e : write_outcome xs (length before) ≡ Err c) where
     none : answer.count ≡ 0
     none = counts ∙ count_refused xs (length before) c e
 
     kept : after ≡ before
     kept = eo ∙ log_refused xs before c e
 
-  accepted : number_in answer.outcome ≡ 0 → write_outcome xs (length before) ≡ Accepted
+  accepted : number_in answer.outcome ≡ 0 → write_outcome xs (length before) ≡ Ok tt
   accepted z = sym (said xs (length before) ea) ∙ no_number answer.outcome z
 
   pub writes : Writes xs before (number_in answer.outcome) answer.count after
@@ -133,11 +133,11 @@ module _ (xs : List ℕ) (before : List Run) {answer : Logged} {after : List Run
     counts = λ z. needs (accepted z) ∙ runs-needed xs;
     log = λ z. log_there (accepted z);
     beyond = λ (k : ℕ) (h : answer.count ≤ k).
-        ⊎_elim (λ (e : write_outcome xs (length before) ≡ Accepted). beyond_there e k h)
-        (λ (e : (c : Cause) × (write_outcome xs (length before) ≡ Refused c)). ap (λ (l : List Run). run_at l k) (kept e.0 e.1))
+        ⊎_elim (λ (e : write_outcome xs (length before) ≡ Ok tt). beyond_there e k h)
+        (λ (e : (c : Cause) × (write_outcome xs (length before) ≡ Err c)). ap (λ (l : List Run). run_at l k) (kept e.0 e.1))
         (outcome_cases (write_outcome xs (length before)));
     long =
-        ⊎_elim (λ (e : write_outcome xs (length before) ≡ Accepted). long_there e)
-        (λ (e : (c : Cause) × (write_outcome xs (length before) ≡ Refused c)). ap (λ (l : List Run). length l) (kept e.0 e.1))
+        ⊎_elim (λ (e : write_outcome xs (length before) ≡ Ok tt). long_there e)
+        (λ (e : (c : Cause) × (write_outcome xs (length before) ≡ Err c)). ap (λ (l : List Run). length l) (kept e.0 e.1))
         (outcome_cases (write_outcome xs (length before)));
   }

@@ -1,4 +1,5 @@
 -- How the writer's loop follows the runs: k records are written, and the next begins at tick `at`.
+use Rattle.std.specs.Prelude.{Ok, Err}
 use mathlib.Core.Path.{◌≡◌, refl, sym, ◌∙◌, ap}
 use mathlib.Core.Bool.{Bool, true, false}
 use mathlib.Core.List.{List, [], ◌∷◌, ◌++◌, append_assoc}
@@ -12,7 +13,6 @@ use lib.Seq.{take-length, drop-cons, take-suc, set_at, length-take-le}
 use Rattle.numbers.specs.First.{first}
 use Rattle.refusal.specs.Tests.{by_outcome}
 use Rattle.refusal.specs.declared.Cause.{Cause}
-use Rattle.refusal.specs.declared.Outcome.TheVariants.{Accepted, Refused}
 use Rattle.refusal.proofs.TestLaws.{then_accepted, refuse_at_accepted, refuse_if_accepted, outcome_cases}
 use Rattle.runs.specs.declared.Run.{Run}
 use Rattle.runs.specs.declared.Logged.{Logged}
@@ -25,7 +25,7 @@ use Rattle.recording.proofs.PassLaws.{Ends, pass_run, none_left}
 -- ---- how many records are written
 
 -- accepted answers are at most 60,000 and none is above 16, and there is room for their records
-pub write_accepted : (xs : List ℕ) (room : ℕ) → write_outcome xs room ≡ Accepted
+pub write_accepted : (xs : List ℕ) (room : ℕ) → write_outcome xs room ≡ Ok tt
     → (length xs ≤ 60000) × ((first (above_at xs) (length xs) ≡ 0) × (length (runs xs) ≤ room))
 unfolding write_outcome answers_test
 write_accepted xs room e =
@@ -34,11 +34,11 @@ write_accepted xs room e =
     (ltb-false 60000 (length xs) (refuse_if_accepted _ _ front.0), (refuse_at_accepted _ _ front.1, ltb-false room (length (runs xs)) (refuse_if_accepted _ _ both.1)))
 
 -- the count, by the outcome
-pub count_accepted : (xs : List ℕ) (room : ℕ) → write_outcome xs room ≡ Accepted → (write_answer xs room).count ≡ length (runs xs)
+pub count_accepted : (xs : List ℕ) (room : ℕ) → write_outcome xs room ≡ Ok tt → (write_answer xs room).count ≡ length (runs xs)
 unfolding write_answer logged_by by_outcome
 count_accepted xs room e = rw e
 
-pub count_refused : (xs : List ℕ) (room : ℕ) (c : Cause) → write_outcome xs room ≡ Refused c → (write_answer xs room).count ≡ 0
+pub count_refused : (xs : List ℕ) (room : ℕ) (c : Cause) → write_outcome xs room ≡ Err c → (write_answer xs room).count ≡ 0
 unfolding write_answer logged_by by_outcome
 count_refused xs room c e = rw e
 
@@ -54,10 +54,10 @@ counted xs room answer ea = ⊎_elim good refused (outcome_cases (write_outcome 
     same : answer.count ≡ (write_answer xs room).count
     same = ap (λ (a : Logged). a.count) ea
 
-    good : write_outcome xs room ≡ Accepted → Counted xs room answer.count
+    good : write_outcome xs room ≡ Ok tt → Counted xs room answer.count
     good e = let f = write_accepted xs room e in let n = same ∙ count_accepted xs room e in record { there = omega (arith, n); fits = omega (arith, n, f.1.1); ticks = λ _. f.0 }
 
-    refused : (c : Cause) × (write_outcome xs room ≡ Refused c) → Counted xs room answer.count
+    refused : (c : Cause) × (write_outcome xs room ≡ Err c) → Counted xs room answer.count
     refused e = let n = same ∙ count_refused xs room e.0 e.1 in record { there = omega (arith, n); fits = omega (arith, n); ticks = λ (h : 0 < answer.count). absurd (omega (arith, n, h)) }
 
 -- ---- the row with k records written
@@ -75,20 +75,20 @@ filled_step rs k ys r h g e =
     rw (one, last, drop-cons ys k r g, append_assoc) (set_at (take k rs) (get_or ys k r) (drop (suc k) ys) r k (length-take-le k rs (omega (arith, h))))
 
 -- the row at exit, by the outcome
-pub log_accepted : (xs : List ℕ) (before : List Run) → write_outcome xs (length before) ≡ Accepted → log_after xs before ≡ runs xs ++ drop (length (runs xs)) before
+pub log_accepted : (xs : List ℕ) (before : List Run) → write_outcome xs (length before) ≡ Ok tt → log_after xs before ≡ runs xs ++ drop (length (runs xs)) before
 unfolding log_after
 log_accepted xs before e = exit_accepted before (write_outcome xs (length before)) (runs xs) e
 
-pub log_refused : (xs : List ℕ) (before : List Run) (c : Cause) → write_outcome xs (length before) ≡ Refused c → log_after xs before ≡ before
+pub log_refused : (xs : List ℕ) (before : List Run) (c : Cause) → write_outcome xs (length before) ≡ Err c → log_after xs before ≡ before
 unfolding log_after
 log_refused xs before c e = exit_refused before (write_outcome xs (length before)) (runs xs) c e
 
 pub log_filled : (xs : List ℕ) (ys : List Run) → filled (runs xs) (write_answer xs (length ys)).count ys ≡ log_after xs ys
 log_filled xs ys =
     ⊎_elim
-    (λ (e : write_outcome xs (length ys) ≡ Accepted).
+    (λ (e : write_outcome xs (length ys) ≡ Ok tt).
     ap (λ (n : ℕ). filled (runs xs) n ys) (count_accepted xs (length ys) e) ∙ ap (λ (rs : List Run). rs ++ drop (length (runs xs)) ys) (take-length (runs xs)) ∙ sym (log_accepted xs ys e))
-    (λ (e : (c : Cause) × (write_outcome xs (length ys) ≡ Refused c)).
+    (λ (e : (c : Cause) × (write_outcome xs (length ys) ≡ Err c)).
     ap (λ (n : ℕ). filled (runs xs) n ys) (count_refused xs (length ys) e.0 e.1) ∙ sym (log_refused xs ys e.0 e.1))
     (outcome_cases (write_outcome xs (length ys)))
 

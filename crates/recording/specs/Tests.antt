@@ -1,10 +1,10 @@
 -- Writing a log: its tests in order, its answer, and every record of the row that was lent.
-use Rattle.std.specs.Prelude.{ℕ, ◌≡◌, Bool, List, ltb, length}
+use Rattle.std.specs.Prelude.{ℕ, ◌≤◌, ◌≡◌, Bool, Result, Ok, Err, List, ltb, length}
 use Rattle.numbers.specs.First.{first}
 use Rattle.numbers.specs.Rows.{entry}
 use Rattle.refusal.specs.Tests.{◌then◌, refuse_if, refuse_at, room_test}
 use Rattle.refusal.specs.declared.Cause.TheVariants.{Answer, LogRoom}
-use Rattle.refusal.specs.declared.Outcome.{Outcome}
+use Rattle.refusal.specs.Outcome.{Outcome}
 use Rattle.runs.specs.declared.Run.{Run}
 use Rattle.runs.specs.declared.Logged.{Logged}
 use Rattle.runs.specs.Runs.{runs}
@@ -30,6 +30,7 @@ write_answer answers room = logged_by (write_outcome answers room) (length (runs
 unfoldable pub log_after : List ℕ → List Run → List Run
 log_after answers records = exit_by records (write_outcome answers (length records)) (runs answers)
 
--- what one pass over the answers finds: the first above 16, or 0 and how many records are needed
-abbrev pub Surveyed : List ℕ → ℕ → ℕ → Type 0
-Surveyed answers above needed = (above ≡ first (above_at answers) (length answers)) × (above ≡ 0 → needed ≡ length (runs answers))
+-- what one pass over the answers finds: how many records are needed, where none is above 16, or the first that is
+abbrev pub Surveyed : List ℕ → Result ℕ ℕ → Type 0
+Surveyed answers (Ok needed) = (first (above_at answers) (length answers) ≡ 0) × (needed ≡ length (runs answers))
+Surveyed answers (Err place) = (1 ≤ place) × (place ≡ first (above_at answers) (length answers))

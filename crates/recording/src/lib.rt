@@ -5,44 +5,28 @@ ghost use Rattle.std.specs.Prelude.{◌≡◌, ◌<◌, ◌≤◌, ◌+◌, leng
 ghost use Rattle.runs.specs.Runs.{lead};
 ghost use Rattle.recording.specs.Tests.{Surveyed, write_answer};
 
-use refusal::{Cause, Outcome};
+use refusal::Cause;
 use runs::{Logged, Run};
 
 // The most answers that a log holds.
 pub const MOST: usize = 60000;
 
-// What one pass over the answers finds: the first above 16, from 1, or 0 for none; and then how many records they need.
-#[derive(Clone, Copy)]
-struct Survey {
-    above: usize,
-    needed: usize,
-}
-
-// The run counter: one pass that stops at an answer above 16.
-fn look_through(answers: &[u8]) -> Survey
-    ensures { Surveyed answers.now result.above result.needed }
+// The run counter: one pass that finds how many records the answers need, or stops at the first above 16: its number, counted from 1.
+fn look_through(answers: &[u8]) -> Result<usize, usize>
+    ensures { Surveyed answers.now result }
 {
     let mut needed: usize = 0;
     let mut before: u8 = 17;
-    let mut k: usize = 0;
-    while k < answers.len() {
-        let task = answers[k];
-        if 16 < task {
-            return Survey {
-                above: k + 1,
-                needed: 0,
-            };
+    for (k, task) in answers.iter().enumerate() {
+        if 16 < *task {
+            return Err(k + 1);
         }
-        if task != before {
+        if *task != before {
             needed += 1;
         }
-        before = task;
-        k += 1;
+        before = *task;
     }
-    Survey {
-        above: 0,
-        needed: needed,
-    }
+    Ok(needed)
 }
 
 // Where the run that begins at `at` ends: the tick after its last.
@@ -51,14 +35,12 @@ pub fn run_end(answers: &[u8], at: usize) -> usize
     ensures { result ≡ at + 1 + lead (get_or answers.now at 0) (drop (at + 1) answers.now) }
 {
     let task = answers[at];
-    let mut end: usize = at + 1;
-    while end < answers.len() {
+    for end in at + 1..answers.len() {
         if answers[end] != task {
             return end;
         }
-        end += 1;
     }
-    end
+    answers.len()
 }
 
 // The answer for a row of `room` records: number 23 for too many answers, or else for one above 16, then 24, or how many records are needed.
@@ -67,14 +49,14 @@ pub fn write_answer(answers: &[u8], room: usize) -> Logged
 {
     let long = refusal::refuse_if(MOST < answers.len(), Cause::Answer(0));
     match long {
-        Outcome::Refused(_) => runs::answer(long, 0),
-        Outcome::Accepted => {
-            let found = look_through(answers);
-            let above = refusal::refuse_if(found.above != 0, Cause::Answer(found.above));
-            let fits = refusal::room_test(Cause::LogRoom, found.needed, room);
-            let outcome = refusal::then(above, fits);
-            runs::answer(outcome, found.needed)
-        }
+        Err(_) => runs::answer(long, 0),
+        Ok(()) => match look_through(answers) {
+            Ok(needed) => {
+                let fits = refusal::room_test(Cause::LogRoom, needed, room);
+                runs::answer(fits, needed)
+            }
+            Err(place) => runs::answer(Err(Cause::Answer(place)), 0),
+        },
     }
 }
 

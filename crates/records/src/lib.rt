@@ -12,11 +12,8 @@ pub fn all_can_be(charge: u32, slots: [Slot; 16]) -> bool
     ensures { result ≡ eqb (first_wrong charge slots) 0 }
 {
     let mut good = true;
-    let mut i: usize = 0;
-    while i < 16 {
-        let s = slots[i];
-        good = good & !slots::cannot_be(charge, s);
-        i += 1;
+    for i in 0..16usize {
+        good &= !slots::cannot_be(charge, slots[i]);
     }
     good
 }
@@ -26,13 +23,5 @@ pub fn first_wrong(charge: u32, slots: [Slot; 16]) -> usize
     requires { charge ≤ 9 }
     ensures { result ≡ first_wrong charge slots }
 {
-    let mut i: usize = 0;
-    while i < 16 {
-        let s = slots[i];
-        if slots::cannot_be(charge, s) {
-            return i + 1;
-        }
-        i += 1;
-    }
-    0
+    numbers::first(16, |i| slots::cannot_be(charge, slots[i])).unwrap_or(0)
 }

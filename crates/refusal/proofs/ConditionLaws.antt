@@ -1,4 +1,5 @@
 -- Tests made in order decide a list of conditions, where each test reports its own.
+use Rattle.std.specs.Prelude.{Ok, Err}
 use Prim.Native.Nat.{ℕ, suc, ◌≤◌}
 use mathlib.Core.Path.{◌≡◌, refl, sym, ◌∙◌, ap}
 use mathlib.Core.List.{List, [], ◌∷◌, ◌++◌}
@@ -12,8 +13,7 @@ use Rattle.refusal.specs.Causes.{number_of, place_of, number_in, place_in}
 use Rattle.refusal.specs.Tests.{◌then◌, refuse_if, refuse_at, room_test}
 use Rattle.refusal.specs.Conditions.{Condition, only, at, numbered, HoldsAt, Fails, None, First, Gives, Decides, Reports, Tested, no_room}
 use Rattle.refusal.specs.declared.Cause.{Cause}
-use Rattle.refusal.specs.declared.Outcome.{Outcome}
-use Rattle.refusal.specs.declared.Outcome.TheVariants.{Accepted, Refused}
+use Rattle.refusal.specs.Outcome.{Outcome}
 use Rattle.refusal.proofs.CauseLaws.{number_range}
 use Rattle.refusal.proofs.TestLaws.{accepted≢refused, outcome_cases, then_accepted, then_cases, refuse_if_accepted, refuse_if_refused, refuse_at_accepted, refuse_at_refused}
 
@@ -126,7 +126,7 @@ test_at {P} {p} {n} {number} cause is h = record {
 }
 
 -- one test after another, each for the next condition of the list: `a and b and c and no_more`
-pub no_more : Reports [] Accepted
+pub no_more : Reports [] (Ok tt)
 no_more = record { accepted = λ e. tt; refused = λ c e. absurd (accepted≢refused refl e) }
 
 infixr 30 ◌and◌
@@ -136,24 +136,24 @@ pub ◌and◌ : {c : Condition} {t o : Outcome} {cs : List Condition} → Report
 -- ---- what reports its conditions decides, where none holds exactly if the call is valid
 
 -- an outcome without a number is no refusal, and one with a number is
-pub no_number : (o : Outcome) → number_in o ≡ 0 → o ≡ Accepted
-no_number Accepted z = refl
-no_number (Refused c) z = absurd (omega (arith, (number_range c).0, z))
+pub no_number : (o : Outcome) → number_in o ≡ 0 → o ≡ Ok tt
+no_number (Ok _) z = refl
+no_number (Err c) z = absurd (omega (arith, (number_range c).0, z))
 
-pub some_number : (o : Outcome) → (number_in o ≡ 0 → ⊥) → (c : Cause) × (o ≡ Refused c)
-some_number Accepted n = absurd (n refl)
-some_number (Refused c) n = (c, refl)
+pub some_number : (o : Outcome) → (number_in o ≡ 0 → ⊥) → (c : Cause) × (o ≡ Err c)
+some_number (Ok _) n = absurd (n refl)
+some_number (Err c) n = (c, refl)
 
 pub gives_refused : (o : Outcome) (number place : ℕ) → 1 ≤ number → Gives o number place
-    → (cause : Cause) × (o ≡ Refused cause) × (number_of cause ≡ number) × (place_of cause ≡ place)
-gives_refused Accepted number place h g = absurd (omega (arith, g.0))
-gives_refused (Refused cause) number place h g = (cause, refl, g.0, g.1)
+    → (cause : Cause) × (o ≡ Err cause) × (number_of cause ≡ number) × (place_of cause ≡ place)
+gives_refused (Ok _) number place h g = absurd (omega (arith, g.0))
+gives_refused (Err cause) number place h g = (cause, refl, g.0, g.1)
 
-accepted_gives : {o : Outcome} → o ≡ Accepted → Gives o 0 0
+accepted_gives : {o : Outcome} → o ≡ Ok tt → Gives o 0 0
 accepted_gives e = (ap number_in e, ap place_in e)
 
 module _ {cs : List Condition} {o : Outcome} (r : Reports cs o) where
-  none_accepted : None cs → o ≡ Accepted
+  none_accepted : None cs → o ≡ Ok tt
   none_accepted n = ⊎_elim (λ e. e) (λ e. absurd (none_first cs _ _ n (r.refused e.0 e.1))) (outcome_cases o)
 
   pub first-given : {k p : ℕ} → First cs k p → Gives o k p
@@ -211,7 +211,7 @@ unnamed_all cs [] ds f t = t
 unnamed_all cs (b ∷ bs) ds f t = unnamed_all cs bs ds (λ n. (f n).1) (unnamed cs b (bs ++ ds) (λ n. (f n).0) t)
 
 -- what a decision says of an acceptance
-pub accepts : {Valid : Type 0} {cs : List Condition} {o : Outcome} → Decides Valid cs o → (o ≡ Accepted) ↔ Valid
+pub accepts : {Valid : Type 0} {cs : List Condition} {o : Outcome} → Decides Valid cs o → (o ≡ Ok tt) ↔ Valid
 accepts {o = o} d = (λ e. d.accepted.0 (accepted_gives e), λ v. no_number o (d.accepted.1 v).0)
 
 -- outcomes of the same number and place decide the same

@@ -1,9 +1,8 @@
 -- The paper's number and place of each cause of refusal, and of an outcome.
-use Rattle.std.specs.Prelude.{ℕ}
+use Rattle.std.specs.Prelude.{ℕ, Ok, Err}
 use Rattle.refusal.specs.declared.Cause.{Cause}
 use Rattle.refusal.specs.declared.Cause.TheVariants.{TooShort, TaskCount, CoreCount, Length, Period, Budget, Hyperperiod, Buffer, Placement, CoreNumber, Overload, Slot, Charge, Cost, Affinity, NotPermitted, FirstByte, Filling, PairList, Pair, Circle, BusPeriod, Answer, LogRoom, Record}
-use Rattle.refusal.specs.declared.Outcome.{Outcome}
-use Rattle.refusal.specs.declared.Outcome.TheVariants.{Accepted, Refused}
+use Rattle.refusal.specs.Outcome.{Outcome}
 
 -- the number of a cause
 abbrev pub number_of : Cause → ℕ
@@ -63,9 +62,9 @@ place_of (Record rec) = rec
 
 -- number and place of an outcome: 0 and 0 where the call is accepted
 abbrev pub number_in : Outcome → ℕ
-number_in Accepted = 0
-number_in (Refused cause) = number_of cause
+number_in (Ok _) = 0
+number_in (Err cause) = number_of cause
 
 abbrev pub place_in : Outcome → ℕ
-place_in Accepted = 0
-place_in (Refused cause) = place_of cause
+place_in (Ok _) = 0
+place_in (Err cause) = place_of cause

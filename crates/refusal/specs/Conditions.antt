@@ -1,10 +1,9 @@
 -- What makes a refusal right: the conditions of a call, as one list in the order of their tests.
-use Rattle.std.specs.Prelude.{ℕ, ◌≤◌, ◌<◌, ◌≡◌, List, [], ◌∷◌, ◌⊎◌, ◌↔◌}
+use Rattle.std.specs.Prelude.{ℕ, ◌≤◌, ◌<◌, ◌≡◌, List, [], ◌∷◌, ◌⊎◌, ◌↔◌, Ok, Err}
 use Rattle.numbers.specs.First.{FirstAt}
 use Rattle.refusal.specs.Causes.{number_of, place_of, number_in, place_in}
 use Rattle.refusal.specs.declared.Cause.{Cause}
-use Rattle.refusal.specs.declared.Outcome.{Outcome}
-use Rattle.refusal.specs.declared.Outcome.TheVariants.{Accepted, Refused}
+use Rattle.refusal.specs.Outcome.{Outcome}
 
 -- One row of the paper's table, under its number: `only 4 P` holds if P does;
 -- `at 5 P n` holds if P does at one of the indices below n.
@@ -49,8 +48,8 @@ pub record Decides (Valid : Type 0) (conditions : List Condition) (outcome : Out
 
 -- What an outcome reports of a list of conditions: where it accepts none holds, and a refusal is that of the first that does.
 pub record Reports (cs : List Condition) (o : Outcome) : Type 0 where
-  pub accepted : o ≡ Accepted → None cs
-  pub refused : (c : Cause) → o ≡ Refused c → First cs (number_of c) (place_of c)
+  pub accepted : o ≡ Ok tt → None cs
+  pub refused : (c : Cause) → o ≡ Err c → First cs (number_of c) (place_of c)
 
 -- The tests of a call report its conditions, and none of these holds exactly if the call is valid.
 pub record Tested (Valid : Type 0) (cs : List Condition) (o : Outcome) : Type 0 where

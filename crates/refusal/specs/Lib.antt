@@ -1,3 +1,4 @@
+pub mod Outcome
 pub mod Causes
 pub mod CauseTable
 pub mod Tests

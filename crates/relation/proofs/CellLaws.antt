@@ -1,16 +1,18 @@
 -- Laws of cells: one pair more, one step of the closure, all steps.
-use Prim.Native.Nat.{ℕ, suc, ◌+◌, ◌*◌, ◌/◌, ◌%◌, ◌≤◌, ◌<◌}
+use Prim.Native.Nat.{ℕ, zero, suc, ◌+◌, ◌*◌, ◌/◌, ◌%◌, ◌≤◌, ◌<◌}
 use mathlib.Core.Path.{◌≡◌, refl, sym, ◌∙◌, ap}
 use mathlib.Core.Bool.{Bool, true, false, ◌&&◌, ◌||◌, or-true, or-false, and-false}
 use mathlib.Core.List.{List}
-use mathlib.Core.Logic.{by_cases}
+use mathlib.Core.Logic.{◌⊎◌, ⊎_elim, by_cases}
 use lib.Dec.{eqb}
 use lib.ListN.{length, get_or, set, replicate, length-set, length-replicate, get_or-replicate}
 use lib.Seq.{get_or-set_same, get_or-set_other}
 use native.Mathlib.Decide.{ℕ_discrete}
 use native.Mathlib.Omega.{arith}
 use borrow.Author.Tests.{eq-eqb, ne_eqb}
-use Rattle.numbers.specs.First.{first}
+use Rattle.std.specs.Prelude.{Option}
+use Rattle.std.specs.Option.{unwrap_or}
+use Rattle.numbers.specs.First.{first, found}
 use Rattle.numbers.proofs.FirstLaws.{first_cong}
 use Rattle.precedence.specs.Circles.{through, reach, circular}
 use Rattle.relation.specs.Cells.{edge, Cells, with_pair, through_at}
@@ -24,13 +26,16 @@ cells_none f h = record { size = length-replicate 289 false; at = λ a b x y. ge
 
 module _ (cells : List Bool) (a b : ℕ) (size : length cells ≡ 289) where
   -- a number above 16 is not among them
-  pub pair_past_left : 16 < a → Cells cells (with_pair (edge cells) a b)
+  past_left : 16 < a → Cells cells (with_pair (edge cells) a b)
   unfolding with_pair
-  pair_past_left h = record { size = size; at = λ x y p q. sym (rw (ne_eqb a x (λ e. omega arith)) (or-false _)) }
+  past_left h = record { size = size; at = λ x y p q. sym (rw (ne_eqb a x (λ e. omega arith)) (or-false _)) }
 
-  pub pair_past_right : 16 < b → Cells cells (with_pair (edge cells) a b)
+  past_right : 16 < b → Cells cells (with_pair (edge cells) a b)
   unfolding with_pair
-  pair_past_right h = record { size = size; at = λ x y p q. sym (rw (ne_eqb b y (λ e. omega arith), and-false) (or-false _)) }
+  past_right h = record { size = size; at = λ x y p q. sym (rw (ne_eqb b y (λ e. omega arith), and-false) (or-false _)) }
+
+  pub pair_past : (a ≤ 16 × 16 < b) ⊎ (16 < a) → Cells cells (with_pair (edge cells) a b)
+  pair_past h = ⊎_elim (λ r. past_right r.1) past_left h
 
   pub pair_set : a ≤ 16 → b ≤ 16 → Cells (set cells (a * 17 + b) true) (with_pair (edge cells) a b)
   unfolding with_pair edge

@@ -2,7 +2,7 @@
 #![tactic(auto)]
 
 ghost use Rattle.std.specs.Prelude.{◌≡◌, ◌≤◌, ◌<◌};
-ghost use Rattle.numbers.specs.First.{first};
+ghost use Rattle.numbers.specs.First.{first, found};
 ghost use Rattle.precedence.specs.Circles.{through, reach, circular};
 ghost use Rattle.relation.specs.Cells.{edge, Cells, with_pair, through_at};
 
@@ -16,18 +16,13 @@ pub fn feeds(cells: &[bool; 289], a: usize, b: usize) -> bool
 }
 
 // The cells that say so too; numbers above 16 change nothing.
-pub fn with_pair(cells: [bool; 289], a: usize, b: usize) -> [bool; 289]
+pub fn with_pair(mut cells: [bool; 289], a: usize, b: usize) -> [bool; 289]
     ensures { Cells result (with_pair (edge cells) a b) }
 {
-    if 16 < a {
-        return cells;
+    if a <= 16 && b <= 16 {
+        cells[a * 17 + b] = true;
     }
-    if 16 < b {
-        return cells;
-    }
-    let mut next = cells;
-    next[a * 17 + b] = true;
-    next
+    cells
 }
 
 // Cell `c` after a step of the closure: as before, or by way of task `k`.
@@ -46,10 +41,8 @@ fn by_way_of(cells: [bool; 289], k: usize) -> [bool; 289]
     ensures { Cells result (through (edge cells) k) }
 {
     let mut next = cells;
-    let mut c: usize = 0;
-    while c < 289 {
-        next[c] = through_cell(&cells, k, c);
-        c += 1;
+    for (c, cell) in next.iter_mut().enumerate() {
+        *cell = through_cell(&cells, k, c);
     }
     next
 }
@@ -60,27 +53,19 @@ fn closure(cells: [bool; 289], n: usize) -> [bool; 289]
     ensures { Cells result (reach (edge cells) n) }
 {
     let mut reached = cells;
-    let mut k: usize = 0;
-    while k < n {
+    for k in 0..n {
+        // By a variable of its own: the check does not cover a call that gives an array to a variable that it is lent.
         let next = by_way_of(reached, k + 1);
         reached = next;
-        k += 1;
     }
     reached
 }
 
-// The lowest of the tasks 1 to `n` on a circle; 0 if there is none.
-pub fn circle_task(cells: [bool; 289], n: usize) -> usize
+// The lowest of the tasks 1 to `n` on a circle.
+pub fn circle_task(cells: [bool; 289], n: usize) -> Option<usize>
     requires { n ≤ 16 }
-    ensures { result ≡ first (circular (edge cells) n) n }
+    ensures { result ≡ found (first (circular (edge cells) n) n) }
 {
     let reached = closure(cells, n);
-    let mut k: usize = 0;
-    while k < n {
-        if feeds(&reached, k + 1, k + 1) {
-            return k + 1;
-        }
-        k += 1;
-    }
-    0
+    numbers::first(n, |k| feeds(&reached, k + 1, k + 1))
 }

@@ -1,11 +1,10 @@
--- What a task is owed, and a released slot as its program makes it.
+-- What a task is owed, as its program makes it.
 use Prim.Native.Nat.{ℕ, ◌+◌, min}
-use mathlib.Core.Path.{◌≡◌, ap}
+use mathlib.Core.Path.{◌≡◌}
 use native.Mathlib.Omega.{arith}
 use native.Mathlib.Nat.{min-le_left}
 use borrow.Author.Tests.{eq-eqb, ne_eqb}
-use Rattle.edf.specs.declared.Slot.{Slot}
-use Rattle.edf.specs.Tick.{owed_for, released}
+use Rattle.edf.specs.Tick.{owed_for}
 
 -- What a task is owed, by the test of its request.
 module _ (charge budget : ℕ) {asked : ℕ} where
@@ -16,8 +15,3 @@ module _ (charge budget : ℕ) {asked : ℕ} where
   pub owed_some : {least : ℕ} → (asked ≡ 0 → ⊥) → least ≡ min asked budget → least + charge ≡ owed_for charge budget asked
   unfolding owed_for
   owed_some n e = rw (ne_eqb asked 0 n, e)
-
--- A slot as its program makes it: the field that changes, by its own call.
-pub released_by : (s : Slot) {owed x : ℕ} → owed ≡ x
-    → record { period = s.period; budget = s.budget; until = s.period; remaining = owed } ≡ released s x
-released_by s e = ap (released s) e

@@ -1,16 +1,10 @@
 // The release of one slot: what its task is owed for a period, and the slot that is released.
 #![tactic(auto)]
 
-ghost use Rattle.std.specs.Prelude.{◌≡◌, ◌+◌, ◌≤◌, min};
+ghost use Rattle.std.specs.Prelude.{◌≡◌, ◌+◌, ◌≤◌};
 ghost use Rattle.edf.specs.Tick.{owed_for, released as released_of};
 
 use edf::Slot;
-
-fn smaller(a: u32, b: u32) -> u32
-    ensures { result ≡ min a b }
-{
-    if a < b { a } else { b }
-}
 
 // What a task is owed for a period: nothing if it asks for nothing, or else the smaller of request and budget, and the charge.
 pub fn owed_for(charge: u32, budget: u32, asked: u32) -> u32
@@ -20,7 +14,7 @@ pub fn owed_for(charge: u32, budget: u32, asked: u32) -> u32
     if asked == 0 {
         0
     } else {
-        smaller(asked, budget) + charge
+        asked.min(budget) + charge
     }
 }
 
@@ -29,11 +23,9 @@ pub fn released(charge: u32, asked: u32, s: Slot) -> Slot
     requires { s.budget + charge ≤ 10000 }
     ensures { result ≡ released_of s (owed_for charge s.budget asked) }
 {
-    let owed = owed_for(charge, s.budget, asked);
     Slot {
-        period: s.period,
-        budget: s.budget,
         until: s.period,
-        remaining: owed,
+        remaining: owed_for(charge, s.budget, asked),
+        ..s
     }
 }

@@ -1,7 +1,7 @@
 -- Rows put into planning order and back by the list of the tasks.
-use Prim.Native.Nat.{ℕ, ◌+◌, ◌≤◌, ◌<◌}
+use Prim.Native.Nat.{ℕ, zero, suc, ◌+◌, ◌≤◌, ◌<◌}
 use mathlib.Core.Path.{◌≡◌, refl, sym, ◌∙◌, ap}
-use mathlib.Core.List.{List}
+use mathlib.Core.List.{List, [], ◌∷◌}
 use mathlib.Core.Logic.{◌≢◌}
 use lib.ListN.{length, get_or, set, take, replicate, length-set}
 use lib.Seq.{get_or-set_same, get_or-set_other, get_or-take}
@@ -9,11 +9,11 @@ use native.Mathlib.Omega.{arith}
 use native.Mathlib.Decide.{ℕ_discrete, dec_lt}
 use Rattle.numbers.specs.Rows.{tab, row, up_to, entry}
 use Rattle.numbers.specs.Reorder.{gather, position, scatter}
-use Rattle.numbers.proofs.RowLaws.{Filled, fill_start, fill_with, fill_done, row_ext, row_cong, row-each, up_to-below, up_to_above, up_to_next, get_or-row, get_or-row_above, get_or-tab, length-row, take_row}
+use Rattle.numbers.proofs.RowLaws.{Filled, fill_start, fill_next, fill_done, row_ext, row_cong, row-each, up_to-below, up_to_above, up_to_next, get_or-row, get_or-row_above, get_or-tab, length-row, take_row}
 use Rattle.numbers.proofs.SortingLaws.{permutation_below}
 use Rattle.numbers.proofs.ReorderLaws.{order_long, gather_long, gather_cong, get_or-gather, get_or-scatter, position_of, position-entry}
 use Rattle.numbers.proofs.ZeroLaws.{zero_at}
-use Rattle.reorder.specs.Listed.{Listed}
+use Rattle.reorder.specs.Listed.{Listed, gathered}
 
 module _ {order : List ℕ} {n : ℕ} (l : Listed order n) where
   -- the tasks in planning order
@@ -51,26 +51,40 @@ module _ {order : List ℕ} {n : ℕ} (l : Listed order n) where
       (λ k b. let i : k < length tasks = rw tasks_long b in
       rw (get_or-gather tasks values k i) (h (entry tasks k) (permutation_below n tasks l.each k i)))
 
+-- the kth value is that of the kth task
+get_or-gathered : {A : Type 0} (z : A) (tasks : List ℕ) (values : List A) (k : ℕ) → k < length tasks → gathered z tasks values k ≡ get_or values (entry tasks k) z
+get_or-gathered z [] values k h = absurd (omega arith)
+get_or-gathered z (t ∷ tasks) values zero h = refl
+get_or-gathered z (t ∷ tasks) values (suc k) h = get_or-gathered z tasks values k (omega arith)
+
+-- an entry within a list, whatever is said of those past its end
+within : {A : Type 0} (x z : A) (l : List A) (i : ℕ) → i < length l → get_or l i x ≡ get_or l i z
+within x z [] i h = absurd (omega arith)
+within x z (y ∷ l) zero h = refl
+within x z (y ∷ l) (suc i) h = within x z l i (omega arith)
+
 -- A loop that puts values into planning order: those of the first k tasks are there.
-pub record Gathering (order : List ℕ) (n : ℕ) (values gathered : List ℕ) (k : ℕ) : Type 0 where
+pub record Gathering {A : Type 0} (z : A) (order : List ℕ) (n : ℕ) (values row : List A) (k : ℕ) : Type 0 where
   pub listed : Listed order n
-  pub fills : Filled 0 n (entry (gather (take n order) values)) gathered k
+  pub fills : Filled z n (gathered z (take n order) values) row k
 
-pub gather_start : (order : List ℕ) (n : ℕ) (values : List ℕ) → Listed order n → Gathering order n values (replicate 16 0) 0
-gather_start order n values l = record { listed = l; fills = fill_start 0 n (entry (gather (take n order) values)) l.few }
+pub gather_start : {A : Type 0} (z : A) (order : List ℕ) (n : ℕ) (values : List A) → Listed order n → Gathering z order n values (replicate 16 z) 0
+gather_start z order n values l = record { listed = l; fills = fill_start z n (gathered z (take n order) values) l.few }
 
-module _ {order : List ℕ} {n : ℕ} {values gathered : List ℕ} {k : ℕ} (s : Gathering order n values gathered k) where
-  pub gather_next : {r : List ℕ} → k < n → r ≡ set gathered k (entry values (entry order k)) → Gathering order n values r (k + 1)
-  gather_next h e =
+module _ {A : Type 0} {z : A} {order : List ℕ} {n : ℕ} {values entries : List A} {k : ℕ} (s : Gathering z order n values entries k) where
+  pub gather_next : (x : A) → k < n → length values ≡ 16 → Gathering z order n values (set entries k (get_or values (entry order k) x)) (k + 1)
+  gather_next x h w =
       let l = s.listed in
       record {
         listed = l;
         fills =
-            fill_with s.fills h e
-            (ap (entry values) (entry_is l k h) ∙ sym (get_or-gather (take n order) values k (rw (tasks_long l) h)));
+            fill_next s.fills h
+            (within x z values (entry order k) (omega (arith, listed_below l k h, l.few))
+            ∙ ap (λ (t : ℕ). get_or values t z) (entry_is l k h)
+            ∙ sym (get_or-gathered z (take n order) values k (rw (tasks_long l) h)));
       }
 
-  pub gather_done : n ≤ k → gathered ≡ row 0 n (entry (gather (take n order) values))
+  pub gather_done : n ≤ k → entries ≡ row z n (gathered z (take n order) values)
   gather_done h = fill_done s.fills h
 
 -- the choice of task t, once those of the first k tasks in planning order are written

@@ -1,4 +1,5 @@
 -- The expander refuses by its conditions, and keeps its promise.
+use Rattle.std.specs.Prelude.{Ok, Err}
 use mathlib.Core.Path.{◌≡◌, refl, sym, ◌∙◌, ap, subst}
 use mathlib.Core.Bool.{not}
 use mathlib.Core.List.{List, [], ◌∷◌, ◌++◌, append-nil}
@@ -13,7 +14,6 @@ use Rattle.refusal.specs.Conditions.{only, at, Reports, Tested, Decides}
 use Rattle.refusal.specs.Tests.{refuse_if, refuse_at}
 use Rattle.refusal.specs.declared.Cause.{Cause}
 use Rattle.refusal.specs.declared.Cause.TheVariants.{Record}
-use Rattle.refusal.specs.declared.Outcome.TheVariants.{Accepted, Refused}
 use Rattle.refusal.proofs.TestLaws.{outcome_cases}
 use Rattle.refusal.proofs.ConditionLaws.{test_only, test_at, then_reports, decides, no_number, some_number}
 use Rattle.runs.specs.declared.Run.{Run}
@@ -62,7 +62,7 @@ module _ (rs : List Run) (room : ℕ) where
 -- ---- what is promised
 
 -- where a log is accepted the row holds its answers
-pub row_accepted : (rs : List Run) (row : List ℕ) → expand_outcome rs (length row) ≡ Accepted → row_after rs row ≡ expand rs
+pub row_accepted : (rs : List Run) (row : List ℕ) → expand_outcome rs (length row) ≡ Ok tt → row_after rs row ≡ expand rs
 unfolding row_after
 row_accepted rs row e =
     let f = expand_accepted rs (length row) e in
@@ -74,7 +74,7 @@ module _ (rs : List Run) (before : List ℕ) {answer : Logged} {after : List ℕ
   counts : answer.count ≡ (expand_answer rs (length before)).count
   counts = ap (λ (a : Logged). a.count) ea
 
-  module _ (e : expand_outcome rs (length before) ≡ Accepted) where
+  module _ (e : expand_outcome rs (length before) ≡ Ok tt) where
     fit : (first_unfit rs ≡ 0) × (total rs ≡ length before)
     fit = expand_accepted rs (length before) e
 
@@ -91,7 +91,7 @@ module _ (rs : List Run) (before : List ℕ) {answer : Logged} {after : List ℕ
     long_there : length after ≡ length before
     long_there = ap (λ (l : List ℕ). length l) stands ∙ length-expand rs ∙ fit.1
 
-  module _ (c : Cause) (e : expand_outcome rs (length before) ≡ Refused c) where
+  module _ (c : Cause) (e : expand_outcome rs (length before) ≡ Err c) where
     none : answer.count ≡ 0
     unfolding expand_answer
     none = counts ∙ logged_refused (expand_outcome rs (length before)) (total rs) c e
@@ -100,7 +100,7 @@ module _ (rs : List Run) (before : List ℕ) {answer : Logged} {after : List ℕ
     unfolding row_after
     kept = eo ∙ exit_refused before (expand_outcome rs (length before)) (expand rs) c e
 
-  accepted : number_in answer.outcome ≡ 0 → expand_outcome rs (length before) ≡ Accepted
+  accepted : number_in answer.outcome ≡ 0 → expand_outcome rs (length before) ≡ Ok tt
   accepted z = sym (said rs (length before) ea) ∙ no_number answer.outcome z
 
   pub expands : Expands rs before (number_in answer.outcome) answer.count after
@@ -112,7 +112,7 @@ module _ (rs : List Run) (before : List ℕ) {answer : Logged} {after : List ℕ
     counts = λ z. all-filled (accepted z);
     log = λ z. log_there (accepted z);
     long =
-        ⊎_elim (λ (e : expand_outcome rs (length before) ≡ Accepted). long_there e)
-        (λ (e : (c : Cause) × (expand_outcome rs (length before) ≡ Refused c)). ap (λ (l : List ℕ). length l) (kept e.0 e.1))
+        ⊎_elim (λ (e : expand_outcome rs (length before) ≡ Ok tt). long_there e)
+        (λ (e : (c : Cause) × (expand_outcome rs (length before) ≡ Err c)). ap (λ (l : List ℕ). length l) (kept e.0 e.1))
         (outcome_cases (expand_outcome rs (length before)));
   }

@@ -1,8 +1,8 @@
 -- Expanding a log: its tests in order, its answer, and every byte of the row that was lent; then how the calls find these out.
-use Rattle.std.specs.Prelude.{ℕ, ◌+◌, cond, not, ◌&&◌, List, [], ◌∷◌, ◌++◌, eqb, ltb, leb, length, take, drop, replicate}
+use Rattle.std.specs.Prelude.{ℕ, ◌+◌, cond, not, ◌&&◌, Result, Ok, Err, List, [], ◌∷◌, ◌++◌, eqb, leb, length, take, drop, replicate}
 use Rattle.refusal.specs.Tests.{◌then◌, refuse_if, refuse_at, by_outcome}
 use Rattle.refusal.specs.declared.Cause.TheVariants.{Record}
-use Rattle.refusal.specs.declared.Outcome.{Outcome}
+use Rattle.refusal.specs.Outcome.{Outcome}
 use Rattle.runs.specs.declared.Run.{Run}
 use Rattle.runs.specs.declared.Logged.{Logged}
 use Rattle.runs.specs.Runs.{expand, total}
@@ -24,22 +24,24 @@ row_after records bytes = exit_by bytes (expand_outcome records (length bytes)) 
 
 -- what looking at records finds: nothing to begin with,
 abbrev pub audit_start : Audit
-audit_start = record { unfit = 0; before = 17; sum = 0; seen = 0 }
+audit_start = record { before = 17; sum = 0; seen = 0 }
 
--- then one record after another, until one is unfit
-abbrev pub audited : Audit → Run → Audit
-audited a r =
-    cond (ltb 0 a.unfit) a
-    (cond (unfit a.before a.sum r) (record { unfit = a.seen + 1; before = a.before; sum = a.sum; seen = a.seen })
-    (record { unfit = 0; before = r.task; sum = a.sum + r.length; seen = a.seen + 1 }))
+-- then what a fit record adds,
+abbrev pub with_run : Audit → Run → Audit
+with_run a r = record { before = r.task; sum = a.sum + r.length; seen = a.seen + 1 }
 
-abbrev pub audit_of : Audit → List Run → Audit
-audit_of a [] = a
-audit_of a (r ∷ rs) = audit_of (audited a r) rs
+-- one record after another, until one is unfit: its number, counted from 1
+abbrev pub audited : Audit → Run → Result Audit ℕ
+audited a r = cond (unfit a.before a.sum r) (Err (a.seen + 1)) (Ok (with_run a r))
+
+abbrev pub audit_of : Audit → List Run → Result Audit ℕ
+audit_of a [] = Ok a
+audit_of a (r ∷ rs) = cond (unfit a.before a.sum r) (Err (a.seen + 1)) (audit_of (with_run a r) rs)
 
 -- the answer by what was found
-unfoldable pub audit_answer : Audit → ℕ → Logged
-audit_answer a room = logged_by (refuse_at a.unfit Record then refuse_if (not (eqb a.sum room)) (Record 0)) a.sum
+abbrev pub audit_answer : Result Audit ℕ → ℕ → Logged
+audit_answer (Ok a) room = logged_by (refuse_if (not (eqb a.sum room)) (Record 0)) a.sum
+audit_answer (Err place) room = logged_by (Err (Record place)) 0
 
 -- how many of n records are expanded: all or none
 unfoldable pub to_paint : Logged → ℕ → ℕ

@@ -5,14 +5,12 @@ ghost use Rattle.std.specs.Prelude.{◌≡◌, ◌≤◌};
 ghost use Rattle.runs.specs.Fit.{unfit};
 ghost use Rattle.replay.specs.Tests.{audit_start, audited, audit_answer, painted, to_paint};
 
-use refusal::{Cause, Outcome};
+use refusal::Cause;
 use runs::{Logged, Run};
 
-// What looking at records in order has found: the first unfit one, from 1, or 0 for none so far; then the task of the last, the sum of
-// the lengths, and how many were looked at.
+// What looking at records in order has found while all were fit: the task of the last, the sum of the lengths, and how many were looked at.
 #[derive(Clone, Copy)]
 pub struct Audit {
-    pub unfit: usize,
     pub before: u32,
     pub sum: u32,
     pub seen: usize,
@@ -23,7 +21,6 @@ pub fn audit_start() -> Audit
     ensures { result ≡ audit_start }
 {
     Audit {
-        unfit: 0,
         before: 17,
         sum: 0,
         seen: 0,
@@ -35,54 +32,35 @@ fn is_unfit(before: u32, sum: u32, r: Run) -> bool
     requires { sum ≤ 60000 }
     ensures { result ≡ unfit before sum r }
 {
-    if r.task > 16 {
-        return true;
-    }
-    if r.task == before {
-        return true;
-    }
-    if r.length == 0 {
-        return true;
-    }
-    if r.first != sum {
-        return true;
-    }
-    60000 - sum < r.length
+    r.task > 16 || r.task == before || r.length == 0 || r.first != sum || 60000 - sum < r.length
 }
 
-// One record more is looked at.
-pub fn look_at(a: Audit, r: Run) -> Audit
+// One record more is looked at: what was found with it, or its number, counted from 1, if it is unfit.
+pub fn look_at(a: Audit, r: Run) -> Result<Audit, usize>
     requires { (a.seen ≤ a.sum) × (a.sum ≤ 60000) }
     ensures { result ≡ audited a r }
 {
-    if 0 < a.unfit {
-        return a;
-    }
     if is_unfit(a.before, a.sum, r) {
-        return Audit {
-            unfit: a.seen + 1,
-            before: a.before,
-            sum: a.sum,
-            seen: a.seen,
-        };
+        return Err(a.seen + 1);
     }
-    Audit {
-        unfit: 0,
+    Ok(Audit {
         before: r.task,
         sum: a.sum + r.length,
         seen: a.seen + 1,
-    }
+    })
 }
 
 // The answer for a row of `room` bytes: number 25 of a record, then of the row's length, or how many answers there are.
-pub fn expand_answer(a: Audit, room: usize) -> Logged
-    requires { a.sum ≤ 60000 }
-    ensures { result ≡ audit_answer a room }
+pub fn expand_answer(found: Result<Audit, usize>, room: usize) -> Logged
+    ensures { result ≡ audit_answer found room }
 {
-    let fit = refusal::refuse_if(a.unfit != 0, Cause::Record(a.unfit));
-    let length = refusal::refuse_if(a.sum as usize != room, Cause::Record(0));
-    let outcome = refusal::then(fit, length);
-    runs::answer(outcome, a.sum as usize)
+    match found {
+        Ok(a) => {
+            let length = refusal::refuse_if(a.sum as usize != room, Cause::Record(0));
+            runs::answer(length, a.sum as usize)
+        }
+        Err(place) => runs::answer(Err(Cause::Record(place)), 0),
+    }
 }
 
 // How many records to expand: all, or none if the call is refused.
@@ -91,8 +69,8 @@ pub fn to_paint(answer: Logged, n: usize) -> usize
 {
     let outcome = answer.outcome;
     match outcome {
-        Outcome::Refused(_) => 0,
-        Outcome::Accepted => n,
+        Err(_) => 0,
+        Ok(()) => n,
     }
 }
 
@@ -108,10 +86,5 @@ pub fn paint(row: &mut [u8], r: Run)
     if row.len() < first + n {
         return;
     }
-    let task = r.task as u8;
-    let mut i: usize = 0;
-    while i < n {
-        row[first + i] = task;
-        i += 1;
-    }
+    row[first..first + n].fill(r.task as u8);
 }

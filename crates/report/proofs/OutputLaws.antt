@@ -1,11 +1,11 @@
 -- The whole output is the one that the definition gives.
+use Rattle.std.specs.Prelude.{Ok, Err}
 use Prim.Native.Nat.{ℕ}
 use mathlib.Core.Path.{◌≡◌, refl, sym, ◌∙◌, ap, ap₂}
 use mathlib.Core.List.{List, []}
 use native.Mathlib.Omega.{arith}
 use Rattle.refusal.specs.declared.Cause.{Cause}
-use Rattle.refusal.specs.declared.Outcome.{Outcome}
-use Rattle.refusal.specs.declared.Outcome.TheVariants as outcome
+use Rattle.refusal.specs.Outcome.{Outcome}
 use Rattle.refusal.proofs.TestLaws.{accepted≢refused}
 use Rattle.taskset.specs.Reading.{task_set_of}
 use Rattle.fields.specs.declared.Fields.{Fields}
@@ -38,7 +38,7 @@ plan_whole s plan e p q = append_whole e (append_both p q) (omega arith)
 pub never_refused : (f : Fields) (limit : ℕ) {plan : Allocation} {v : Verdict} {cause : Cause} → plan ≡ plan_for f limit → plan.verdict ≡ v → v ≡ verdict.Refused cause → ⊥
 unfolding verdict_outcome
 never_refused f limit {plan} e q h =
-    let a : verdict_outcome plan.verdict ≡ outcome.Accepted = rw e (planned_says f limit) in
+    let a : verdict_outcome plan.verdict ≡ Ok tt = rw e (planned_says f limit) in
     let z : ◌≡◌ {A = ℕ} 0 1 = cc in
     omega arith
 
@@ -50,11 +50,11 @@ output_is t = rw (plan_outcome t 1000000) (printed-same t.outcome (λ e. rw (pla
 -- ---- the steps of the program
 
 module _ (g : Reading) {x : List ℕ} {o : Outcome} (q : g.outcome ≡ o) where
-  pub read_refused : {cause : Cause} → o ≡ outcome.Refused cause → x ≡ printed o [] → x ≡ read_output g
+  pub read_refused : {cause : Cause} → o ≡ Err cause → x ≡ printed o [] → x ≡ read_output g
   unfolding read_output
   read_refused h p = p ∙ rw q (printed-same o (λ a. absurd (accepted≢refused a h)))
 
-  pub read_planned : {plan : Allocation} → o ≡ outcome.Accepted → plan ≡ plan_for g.tasks.fields 1000000 → x ≡ plan_lines g.tasks plan → x ≡ read_output g
+  pub read_planned : {plan : Allocation} → o ≡ Ok tt → plan ≡ plan_for g.tasks.fields 1000000 → x ≡ plan_lines g.tasks plan → x ≡ read_output g
   unfolding read_output
   read_planned h w p = p ∙ ap (plan_lines g.tasks) w ∙ sym (printed_accepted _ (q ∙ h))
 

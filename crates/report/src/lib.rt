@@ -9,7 +9,6 @@ ghost use Rattle.report.specs.Output.{verdict_word, summary_line, plan_lines, re
 ghost use Rattle.report.specs.Reported.{Reported, PlanReadBack};
 
 use planner::{Allocation, Verdict};
-use refusal::Outcome;
 use taskset::{Reading, TaskSet};
 use text::Text;
 
@@ -33,8 +32,8 @@ fn append_summary(t: Text, plan: Allocation) -> Text
 {
     let verdict = plan.verdict;
     let word = append_verdict(t, verdict);
-    let rejected = decimal::append_field(word, plan.rejected as u64);
-    let steps = decimal::append_field(rejected, plan.steps as u64);
+    let rejected = decimal::append_field(word, u64::from(plan.rejected));
+    let steps = decimal::append_field(rejected, u64::from(plan.steps));
     text::append_bytes(steps, b"\n")
 }
 
@@ -43,9 +42,7 @@ fn plan_report(t: TaskSet, plan: Allocation) -> Text
     requires { t.fields.n ≤ 16 }
     ensures { shown result ≡ plan_lines t plan }
 {
-    let nothing = text::empty();
-    let cores = plan.placement;
-    let table = listing::append_table(nothing, t, cores);
+    let table = listing::append_table(text::empty(), t, plan.placement);
     append_summary(table, plan)
 }
 
@@ -55,7 +52,7 @@ pub fn report_read(reading: Reading) -> Text
     ensures { shown result ≡ read_output reading }
 {
     let outcome = reading.outcome;
-    let Outcome::Accepted = outcome else {
+    let Ok(()) = outcome else {
         return listing::refusal_report(outcome);
     };
     let plan = planner::plan_tasks(reading.tasks, LIMIT);

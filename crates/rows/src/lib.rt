@@ -1,4 +1,5 @@
-// Rows of sixteen read from bytes, as tables store them.
+// Rows of sixteen read from bytes, as tables store them. Two loops, and not `numbers::row` twice: its row is copied once more on the way, and
+// the firmware's entry would take 1,031 bytes of stack where 1,024 are promised.
 #![tactic(auto)]
 
 ghost use Rattle.std.specs.Prelude.{◌≡◌, ◌<◌};
@@ -10,12 +11,9 @@ pub fn words(s: &[u8], at: usize, n: usize) -> [u32; 16]
     requires { at < 2048 }
     ensures { result ≡ row 0 n (word_at s.now at) }
 {
-    let count = numbers::at_most_sixteen(n);
-    let mut entries = [0u32; 16];
-    let mut k = 0;
-    while k < count {
+    let mut entries = [0; 16];
+    for k in 0..numbers::at_most_sixteen(n) {
         entries[k] = wire::word(s, at + 4 * k);
-        k += 1;
     }
     entries
 }
@@ -25,13 +23,9 @@ pub fn bytes(s: &[u8], at: usize, n: usize) -> [u8; 16]
     requires { at < 2048 }
     ensures { result ≡ row 0 n (byte_at s.now at) }
 {
-    let count = numbers::at_most_sixteen(n);
-    let mut entries = [0u8; 16];
-    let mut k = 0;
-    while k < count {
-        let next = numbers::with_byte(entries, k, wire::byte(s, at + k));
-        entries = next;
-        k += 1;
+    let mut entries = [0; 16];
+    for k in 0..numbers::at_most_sixteen(n) {
+        entries[k] = wire::byte(s, at + k);
     }
     entries
 }

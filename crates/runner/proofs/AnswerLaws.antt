@@ -1,4 +1,5 @@
 -- What is said of every answer that equals the definition of a tick.
+use Rattle.std.specs.Prelude.{Ok, Err}
 use Prim.Native.Nat.{ℕ}
 use mathlib.Core.Path.{◌≡◌, refl, sym, ◌∙◌}
 use mathlib.Core.List.{List}
@@ -7,7 +8,6 @@ use native.Mathlib.Decide.{ℕ_discrete}
 use Rattle.refusal.specs.Causes.{number_in}
 use Rattle.refusal.specs.Conditions.{Decides}
 use Rattle.refusal.specs.declared.Cause.TheVariants.{Slot as WrongSlot}
-use Rattle.refusal.specs.declared.Outcome.TheVariants.{Accepted, Refused}
 use Rattle.refusal.proofs.ConditionLaws.{decides_same}
 use Rattle.edf.specs.declared.Slot.{Slot}
 use Rattle.edf.specs.Slots.{first_wrong}
@@ -23,8 +23,8 @@ use Rattle.runner.proofs.TickLaws.{tick_overcharged, tick_accepted, tick_refused
 
 module _ (charge : ℕ) (slots : List Slot) (requests : List ℕ) where
   -- A tick makes its steps, and that is right; or it refuses at a place, and that is.
-  tick_ends : ((tick charge slots requests ≡ stepped charge slots requests) × Decided charge slots Accepted)
-      ⊎ ((place : ℕ) × (tick charge slots requests ≡ refused_tick charge slots place) × Decided charge slots (Refused (WrongSlot place)))
+  tick_ends : ((tick charge slots requests ≡ stepped charge slots requests) × Decided charge slots (Ok tt))
+      ⊎ ((place : ℕ) × (tick charge slots requests ≡ refused_tick charge slots place) × Decided charge slots (Err (WrongSlot place)))
   tick_ends = elim (split charge 9) [
     | inl h ↦
         by_cases (ℕ_discrete (first_wrong charge slots) 0)
@@ -38,8 +38,8 @@ module _ (core : Core) (requests : List ℕ) (r : Ticked) (e : tick_answer r ≡
   unfolding stepped refused_tick tick_answer
   answer_decides =
       ⊎_elim
-      (λ t. let w = e ∙ t.0 in decides_same r.outcome Accepted (λ i. (w i).refusal) (λ i. (w i).place) t.1)
-      (λ t. let w = e ∙ t.1 in decides_same r.outcome (Refused (WrongSlot t.0)) (λ i. (w i).refusal) (λ i. (w i).place) t.2)
+      (λ t. let w = e ∙ t.0 in decides_same r.outcome (Ok tt) (λ i. (w i).refusal) (λ i. (w i).place) t.1)
+      (λ t. let w = e ∙ t.1 in decides_same r.outcome (Err (WrongSlot t.0)) (λ i. (w i).refusal) (λ i. (w i).place) t.2)
       (tick_ends core.charge core.slots requests)
 
   pub answer_refused : number_in r.outcome ≢ 0 → PlainRefusal core r

@@ -1,4 +1,5 @@
 -- A tick takes exactly the records with a charge of at most 9 whose slots can all be, and refuses another for its charge or its first slot that cannot.
+use Rattle.std.specs.Prelude.{Ok, Err}
 use Prim.Native.Nat.{ℕ, ◌+◌, ◌%◌, ◌≤◌, ◌<◌}
 use mathlib.Core.Path.{◌≡◌, refl, sym, ◌∙◌, ap}
 use mathlib.Core.List.{List}
@@ -15,8 +16,7 @@ use Rattle.numbers.proofs.FirstLaws.{Holds, first_zero}
 use Rattle.refusal.specs.Tests.{◌then◌, refuse_if, refuse_at}
 use Rattle.refusal.specs.Conditions.{Decides}
 use Rattle.refusal.specs.declared.Cause.TheVariants.{Slot as WrongSlot}
-use Rattle.refusal.specs.declared.Outcome.{Outcome}
-use Rattle.refusal.specs.declared.Outcome.TheVariants.{Accepted, Refused}
+use Rattle.refusal.specs.Outcome.{Outcome}
 use Rattle.refusal.proofs.TestLaws.{refuse_at_zero, refuse_found}
 use Rattle.refusal.proofs.ConditionLaws.{test_only, test_at, ◌and◌, decides}
 use Rattle.edf.specs.declared.Slot.{Slot}
@@ -79,7 +79,7 @@ module _ (charge : ℕ) (slots : List Slot) where
   })
 
   -- what the promise says at each end of the program
-  pub record_overcharged : 9 < charge → Decided (Refused (WrongSlot 0))
+  pub record_overcharged : 9 < charge → Decided (Err (WrongSlot 0))
   unfolding refuse_if ◌then◌
   record_overcharged h = rw (lt-ltb 9 charge h) at record_decides
 
@@ -88,10 +88,10 @@ module _ (charge : ℕ) (slots : List Slot) where
     unfolding refuse_if ◌then◌
     slots_decide = rw (le-ltb 9 charge h, ← e) at record_decides
 
-    pub record_refused : (wrong ≡ 0 → ⊥) → Decided (Refused (WrongSlot wrong))
+    pub record_refused : (wrong ≡ 0 → ⊥) → Decided (Err (WrongSlot wrong))
     record_refused n = rw (refuse_found wrong WrongSlot n) at slots_decide
 
-    pub record_accepted : wrong ≡ 0 → Decided Accepted
+    pub record_accepted : wrong ≡ 0 → Decided (Ok tt)
     record_accepted z = rw (refuse_at_zero wrong WrongSlot z) at slots_decide
 
     -- and what an accepted record is

@@ -1,4 +1,5 @@
 -- A tick by its parts.
+use Rattle.std.specs.Prelude.{Ok, Err}
 use Prim.Native.Nat.{ℕ, suc, ◌+◌, ◌-◌, ◌≤◌, ◌<◌, min}
 use mathlib.Core.Path.{◌≡◌, refl, sym, ap, ◌∙◌}
 use mathlib.Core.Logic.{by_cases}
@@ -11,7 +12,6 @@ use lib.Dec.{eqb, ltb}
 use lib.ListN.{length, get_or, set, length-set}
 use lib.Seq.{get_or-set_same, get_or-set_other, ext_get_or}
 use borrow.Author.Tests.{eq-eqb, ne_eqb, lt-ltb, le-ltb}
-use Rattle.refusal.specs.declared.Outcome.TheVariants.{Accepted, Refused}
 use Rattle.refusal.specs.declared.Cause.TheVariants.{Slot as WrongSlot}
 use Rattle.edf.specs.declared.Slot.{Slot}
 use Rattle.edf.specs.Slots.{empty_slot, occupied, each, first_wrong}
@@ -55,12 +55,12 @@ run-one task slots d {y} size h n e =
 -- The three steps as their program makes them.
 pub stepped_by : (charge : ℕ) (slots : List Slot) (requests : List ℕ) (late run : ℕ) (next : List Slot) → late ≡ first_late slots
     → run ≡ chosen (release_all charge requests slots) → next ≡ advance_all run (release_all charge requests slots)
-    → tick_answer (record { core = record { slots = next; charge = charge }; run = run; late = late; outcome = Accepted }) ≡ stepped charge slots requests
+    → tick_answer (record { core = record { slots = next; charge = charge }; run = run; late = late; outcome = Ok tt }) ≡ stepped charge slots requests
 unfolding tick_answer stepped
 stepped_by charge slots requests late run next el ec en = rw (en, ec, el)
 
 -- and the refusal
-pub refused_by : (core : Core) (slot : ℕ) {r : Ticked} → r ≡ record { core = core; run = 0; late = 0; outcome = Refused (WrongSlot slot) }
+pub refused_by : (core : Core) (slot : ℕ) {r : Ticked} → r ≡ record { core = core; run = 0; late = 0; outcome = Err (WrongSlot slot) }
     → tick_answer r ≡ refused_tick core.charge core.slots slot
 unfolding tick_answer refused_tick
 refused_by core slot e = ap tick_answer e

@@ -2,9 +2,9 @@
 use mathlib.Core.Path.{◌≡◌, refl, sym, ◌∙◌, ap}
 use mathlib.Core.Bool.{Bool, true, false, not, ◌||◌}
 use mathlib.Core.List.{List, [], ◌∷◌}
-use Prim.Native.Nat.{ℕ, suc, ◌+◌, ◌-◌, ◌<◌, ◌≤◌}
+use Prim.Native.Nat.{ℕ, suc, ◌+◌, ◌≤◌}
 use native.Mathlib.Omega.{arith}
-use borrow.Author.Tests.{not-false, ltb-true, ltb-false, eqb-true, eqb-false, lt-ltb, le-ltb, eq-eqb, ne_eqb}
+use borrow.Author.Tests.{not-false, ltb-false, eqb-true, eqb-false, le-ltb, eq-eqb, ne_eqb}
 use lib.Dec.{eqb, ltb}
 use lib.ListN.{length, drop}
 use Rattle.numbers.proofs.BoolLaws.{or_false_left, or_false_right}
@@ -16,26 +16,6 @@ use Rattle.runs.proofs.RunLaws.{runs_lead, lead_le, joined_same, joined-other}
 -- ---- one record
 
 module _ (before sum : ℕ) (r : Run) where
-  pub unfit_task : 16 < r.task → true ≡ unfit before sum r
-  unfit_task a = rw (lt-ltb 16 r.task a)
-
-  pub unfit-same : r.task ≤ 16 → r.task ≡ before → true ≡ unfit before sum r
-  unfit-same a b = rw (le-ltb 16 r.task a, eq-eqb r.task before b)
-
-  pub unfit-none : r.task ≤ 16 → (r.task ≡ before → ⊥) → r.length ≡ 0 → true ≡ unfit before sum r
-  unfit-none a b d = rw (le-ltb 16 r.task a, ne_eqb r.task before b, eq-eqb r.length 0 d)
-
-  pub unfit-first : r.task ≤ 16 → (r.task ≡ before → ⊥) → (r.length ≡ 0 → ⊥) → (r.first ≡ sum → ⊥) → true ≡ unfit before sum r
-  unfit-first a b d e = rw (le-ltb 16 r.task a, ne_eqb r.task before b, ne_eqb r.length 0 d, ne_eqb r.first sum e)
-
-  pub unfit_long : r.task ≤ 16 → (r.task ≡ before → ⊥) → (r.length ≡ 0 → ⊥) → r.first ≡ sum → sum ≤ 60000 → ltb (60000 - sum) r.length ≡ unfit before sum r
-  unfit_long a b d e f =
-      rw (le-ltb 16 r.task a, ne_eqb r.task before b, ne_eqb r.length 0 d, eq-eqb r.first sum e) (go (ltb 60000 (sum + r.length)) refl)
-    where
-      go : (t : Bool) → ltb 60000 (sum + r.length) ≡ t → ltb (60000 - sum) r.length ≡ ltb 60000 (sum + r.length)
-      go true g = let h = ltb-true 60000 (sum + r.length) g in lt-ltb (60000 - sum) r.length (omega (arith, h, f)) ∙ sym g
-      go false g = let h = ltb-false 60000 (sum + r.length) g in le-ltb (60000 - sum) r.length (omega (arith, h, f)) ∙ sym g
-
   pub fit_is : r.task ≤ 16 → (r.task ≡ before → ⊥) → (r.length ≡ 0 → ⊥) → r.first ≡ sum → sum + r.length ≤ 60000 → unfit before sum r ≡ false
   fit_is a b c d e = rw (le-ltb 16 r.task a, ne_eqb r.task before b, ne_eqb r.length 0 c, eq-eqb r.first sum d, le-ltb 60000 (sum + r.length) e)
 

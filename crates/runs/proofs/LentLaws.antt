@@ -1,4 +1,5 @@
 -- Answer and row of a call on a log, by the outcome of its tests.
+use Rattle.std.specs.Prelude.{Ok, Err}
 use mathlib.Core.Path.{◌≡◌, refl, sym, ◌∙◌, ap}
 use mathlib.Core.List.{List, ◌++◌}
 use Prim.Native.Nat.{ℕ, ◌+◌, ◌-◌, ◌≤◌}
@@ -7,29 +8,28 @@ use lib.ListN.{length, get_or, drop, length-append, length-drop}
 use lib.Seq.{get_or-append-add, get_or-drop}
 use Rattle.refusal.specs.Tests.{by_outcome}
 use Rattle.refusal.specs.declared.Cause.{Cause}
-use Rattle.refusal.specs.declared.Outcome.{Outcome}
-use Rattle.refusal.specs.declared.Outcome.TheVariants.{Accepted, Refused}
+use Rattle.refusal.specs.Outcome.{Outcome}
 use Rattle.runs.specs.Lent.{logged_by, exit_by}
 
 -- the outcome is that of the tests
 pub logged_outcome : (o : Outcome) (n : ℕ) → (logged_by o n).outcome ≡ o
 unfolding logged_by by_outcome
-logged_outcome Accepted n = refl
-logged_outcome (Refused c) n = refl
+logged_outcome (Ok _) n = refl
+logged_outcome (Err c) n = refl
 
-pub logged_accepted : (o : Outcome) (n : ℕ) → o ≡ Accepted → (logged_by o n).count ≡ n
+pub logged_accepted : (o : Outcome) (n : ℕ) → o ≡ Ok tt → (logged_by o n).count ≡ n
 unfolding logged_by by_outcome
 logged_accepted o n e = rw e
 
-pub logged_refused : (o : Outcome) (n : ℕ) (c : Cause) → o ≡ Refused c → (logged_by o n).count ≡ 0
+pub logged_refused : (o : Outcome) (n : ℕ) (c : Cause) → o ≡ Err c → (logged_by o n).count ≡ 0
 unfolding logged_by by_outcome
 logged_refused o n c e = rw e
 
-pub exit_accepted : {A : Type 0} (row : List A) (o : Outcome) (new : List A) → o ≡ Accepted → exit_by row o new ≡ new ++ drop (length new) row
+pub exit_accepted : {A : Type 0} (row : List A) (o : Outcome) (new : List A) → o ≡ Ok tt → exit_by row o new ≡ new ++ drop (length new) row
 unfolding exit_by by_outcome
 exit_accepted row o new e = rw e
 
-pub exit_refused : {A : Type 0} (row : List A) (o : Outcome) (new : List A) (c : Cause) → o ≡ Refused c → exit_by row o new ≡ row
+pub exit_refused : {A : Type 0} (row : List A) (o : Outcome) (new : List A) (c : Cause) → o ≡ Err c → exit_by row o new ≡ row
 unfolding exit_by by_outcome
 exit_refused row o new c e = rw e
 

@@ -4,7 +4,7 @@
 ghost use Rattle.std.specs.Prelude.{◌≡◌};
 ghost use Rattle.runs.specs.Lent.{logged_by};
 
-use refusal::Outcome;
+use refusal::Cause;
 
 // A record: a task, or 0 for none, that had the core from tick `first` on for `length` ticks.
 #[repr(C)]
@@ -18,21 +18,21 @@ pub struct Run {
 // The answer of a call on a log: how many records were written or answers filled in; 0 beside a refusal.
 #[derive(Clone, Copy)]
 pub struct Logged {
-    pub outcome: Outcome,
+    pub outcome: Result<(), Cause>,
     pub count: usize,
 }
 
 // The answer by the outcome of all tests.
-pub fn answer(outcome: Outcome, count: usize) -> Logged
+pub fn answer(outcome: Result<(), Cause>, count: usize) -> Logged
     ensures { result ≡ logged_by outcome count }
 {
     match outcome {
-        Outcome::Refused(cause) => Logged {
-            outcome: Outcome::Refused(cause),
+        Err(cause) => Logged {
+            outcome: Err(cause),
             count: 0,
         },
-        Outcome::Accepted => Logged {
-            outcome: Outcome::Accepted,
+        Ok(()) => Logged {
+            outcome: Ok(()),
             count: count,
         },
     }

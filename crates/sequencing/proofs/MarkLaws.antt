@@ -1,16 +1,19 @@
 -- Laws of marks, and the loop that places task after task.
-use Prim.Native.Nat.{ℕ, suc, ◌+◌, ◌≤◌, ◌<◌}
+use Prim.Native.Nat.{ℕ, zero, suc, ◌+◌, ◌≤◌, ◌<◌}
 use mathlib.Core.Path.{◌≡◌, refl, sym, ◌∙◌, ap}
 use mathlib.Core.Bool.{Bool, true, false, not, ◌&&◌, or-true, or-false}
 use mathlib.Core.List.{List, [], ◌∷◌, ◌++◌}
 use mathlib.Core.Logic.{by_cases}
+use lib.Dec.{eqb}
 use lib.ListN.{length, get_or, set, replicate, length-set, length-replicate, get_or-replicate}
 use lib.Seq.{get_or-set_same, get_or-set_other}
 use native.Mathlib.Decide.{ℕ_discrete}
 use native.Mathlib.Omega.{arith}
 use borrow.Author.Tests.{eq-eqb, ne_eqb}
+use Rattle.std.specs.Prelude.{Option, is_some}
+use Rattle.numbers.specs.First.{first, found}
 use Rattle.numbers.specs.Rows.{padded}
-use Rattle.numbers.proofs.FirstLaws.{Seeking, looked_found, seek_none}
+use Rattle.numbers.proofs.FirstLaws.{first_is}
 use Rattle.numbers.proofs.ZeroLaws.{padded_next}
 use Rattle.precedence.specs.Sequence.{stands, holds_up, waits, is_ready, next_task, with_next, ordered}
 use Rattle.precedence.proofs.ReadyLaws.{stands_last}
@@ -19,23 +22,31 @@ use Rattle.precedence.proofs.SequenceLaws.{ordered-length}
 use Rattle.relation.specs.Cells.{edge}
 use Rattle.sequencing.specs.Marks.{marked}
 
--- ---- the loops that look for a task
+-- ---- what looks for a task
 
--- whether task k + 1 holds t up, as the loop has it
+-- whether task k + 1 holds t up, as the search has it
 pub holds_up_lem : (f : ℕ → ℕ → Bool) (placed : List Bool) (t k : ℕ) {a b : Bool} → a ≡ f (k + 1) t → b ≡ get_or placed (k + 1) false → (a && not b) ≡ holds_up f (marked placed) t k
 unfolding holds_up
 holds_up_lem f placed t k p q = let one : k + 1 ≡ suc k = omega arith in rw (p, q, one)
 
-module _ (f : ℕ → ℕ → Bool) (n : ℕ) (placed : ℕ → Bool) (t k : ℕ) (s : Seeking (holds_up f placed t) n k) where
-  pub waits_found : {r : Bool} → k < n → r ≡ holds_up f placed t k → r ≡ true → true ≡ waits f n placed t
-  unfolding waits
-  waits_found h e q = rw (← looked_found s h e q, ne_eqb (k + 1) 0 (λ z. omega arith))
+-- whether something is found, as `waits` says it
+pub waits-found : (f : ℕ → ℕ → Bool) (n : ℕ) (placed : ℕ → Bool) (t : ℕ) {r : Bool} {o : Option ℕ} → r ≡ is_some o → o ≡ found (first (holds_up f placed t) n) → r ≡ waits f n placed t
+unfolding waits found
+waits-found f n placed t {r} {o} e g = go (first (holds_up f placed t) n) g
+  where
+    go : (k : ℕ) → o ≡ found k → r ≡ not (eqb k 0)
+    go zero h = rw h at e
+    go (suc k) h = rw h at e ∙ sym (ap not (ne_eqb (suc k) 0 (λ z. omega arith)))
 
-  pub waits-none : n ≤ k → false ≡ waits f n placed t
-  unfolding waits
-  waits-none h = rw (← seek_none s h)
+-- no task is found beyond n
+pub first_le : (p : ℕ → Bool) (n : ℕ) → first p n ≤ n
+first_le p n = go (first p n) refl
+  where
+    go : (k : ℕ) → first p n ≡ k → first p n ≤ n
+    go zero e = omega arith
+    go (suc k) e = let b = (first_is p n k e).below in omega arith
 
--- whether task k + 1 is ready, as the loop has it
+-- whether task k + 1 is ready, as the search has it
 pub ready-here : (f : ℕ → ℕ → Bool) (n : ℕ) (placed : List Bool) (k : ℕ) {a b : Bool} → a ≡ get_or placed (k + 1) false → b ≡ waits f n (marked placed) (k + 1)
     → (not a && not b) ≡ is_ready f n (marked placed) k
 unfolding is_ready

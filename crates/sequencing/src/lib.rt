@@ -12,14 +12,7 @@ fn waits(cells: &[bool; 289], placed: &[bool; 17], n: usize, t: usize) -> bool
     requires { (n ≤ 16) × (t < 17) }
     ensures { result ≡ waits_of (edge cells.now) n (marked placed.now) t }
 {
-    let mut k: usize = 0;
-    while k < n {
-        if relation::feeds(cells, k + 1, t) & !placed[k + 1] {
-            return true;
-        }
-        k += 1;
-    }
-    false
+    numbers::first(n, |k| relation::feeds(cells, k + 1, t) & !placed[k + 1]).is_some()
 }
 
 // The lowest ready task; 0 if there is none.
@@ -27,14 +20,7 @@ fn next_task(cells: &[bool; 289], placed: &[bool; 17], n: usize) -> usize
     requires { n ≤ 16 }
     ensures { (result ≡ next_task (edge cells.now) n (marked placed.now)) × (result < 17) }
 {
-    let mut k: usize = 0;
-    while k < n {
-        if !placed[k + 1] & !waits(cells, placed, n, k + 1) {
-            return k + 1;
-        }
-        k += 1;
-    }
-    0
+    numbers::first(n, |k| !placed[k + 1] & !waits(cells, placed, n, k + 1)).unwrap_or(0)
 }
 
 // The order of the tasks 1 to `n`, each after those that feed it, the lowest ready number first; zeros up to sixteen.
@@ -44,12 +30,10 @@ pub fn task_order(cells: [bool; 289], n: usize) -> [u8; 16]
 {
     let mut order = [0u8; 16];
     let mut placed = [false; 17];
-    let mut i: usize = 0;
-    while i < n {
+    for i in 0..n {
         let t = next_task(&cells, &placed, n);
         order[i] = t as u8;
         placed[t] = true;
-        i += 1;
     }
     order
 }

@@ -7,7 +7,7 @@ ghost use Rattle.slots.specs.SoFar.{late_so_far, choice_so_far};
 
 use edf::{Claim, Slot};
 
-// A slot that no task has.
+// A slot that no task has. Its zeros are written out, since the contract names each and two edits of must-fail/ change one.
 pub fn empty() -> Slot
     ensures { result ≡ empty_slot }
 {
@@ -50,14 +50,10 @@ pub fn late_so_far(late: usize, number: usize, s: Slot) -> usize
 pub fn choice_so_far(best: Claim, number: usize, s: Slot) -> Claim
     ensures { result ≡ choice_so_far best number s }
 {
-    if 0 < s.remaining {
-        if (best.task == 0) | (s.until < best.deadline) {
-            Claim {
-                task: number,
-                deadline: s.until,
-            }
-        } else {
-            best
+    if 0 < s.remaining && (best.task == 0 || s.until < best.deadline) {
+        Claim {
+            task: number,
+            deadline: s.until,
         }
     } else {
         best

@@ -1,4 +1,5 @@
 -- A fresh core: its tests decide, and an accepted core has the tick guarantee.
+use Rattle.std.specs.Prelude.{Ok, Err}
 use Prim.Native.Nat.{ℕ, ◌≤◌, ◌<◌}
 use native.Mathlib.Decide.{dec_lt}
 use native.Mathlib.Omega.{arith}
@@ -10,11 +11,9 @@ use Rattle.numbers.specs.Rows.{entry}
 use Rattle.numbers.proofs.RowLaws.{get_or-row, get_or-row_above}
 use Rattle.refusal.specs.Conditions.{Decides}
 use Rattle.refusal.specs.declared.Cause.{Cause}
-use Rattle.refusal.specs.declared.Outcome.{Outcome}
-use Rattle.refusal.specs.declared.Outcome.TheVariants.{Accepted, Refused}
+use Rattle.refusal.specs.Outcome.{Outcome}
 use Rattle.refusal.proofs.TestLaws.{accepted≢refused, then_first, then_refused, by_accepted, by_refused, by_both, by_says}
 use Rattle.refusal.proofs.ConditionLaws.{join_after, decides}
-use Rattle.fields.specs.declared.Fields.{Fields}
 use Rattle.taskset.specs.declared.TaskSet.{TaskSet}
 use Rattle.taskset.specs.declared.Reading.{Reading}
 use Rattle.fields.specs.Hyperperiod.{hyperperiod_of}
@@ -30,7 +29,7 @@ use Rattle.oldform.proofs.FormLaws.{every_affinity_fact}
 use Rattle.oldform.proofs.OldLaws.{alone-tested, alone_sound, alone_sized}
 use Rattle.edf.specs.declared.Slot.{Slot}
 use Rattle.edf.specs.Slots.{empty_slot, slot_at}
-use Rattle.edf.specs.Fresh.{slot_for, fresh_slot, fresh_slots}
+use Rattle.edf.specs.Fresh.{fresh_slot, fresh_slots}
 use Rattle.edf.specs.Guarantee.{WithinLimits, LoadFits}
 use Rattle.edf.proofs.GuaranteeLaws.{tick_guarantee}
 use Rattle.placing.specs.Tests.{placing_outcome}
@@ -114,11 +113,11 @@ module _ {t : Table} (sound : Sound t) (placement : List ℕ) (core : ℕ) where
 
 -- The steps of the program.
 module _ (t : Table) (placement : List ℕ) (core : ℕ) {reading : Reading} (e : reading ≡ reading_of t) where
-  pub start_refused : {c : Cause} {r : Started} → reading.outcome ≡ Refused c → r ≡ refused_start c → r ≡ start_of t placement core
+  pub start_refused : {c : Cause} {r : Started} → reading.outcome ≡ Err c → r ≡ refused_start c → r ≡ start_of t placement core
   unfolding start_of start_by
   start_refused q h = h ∙ sym (by_refused refused_start (start_for placement core) t.fields (then_refused _ _ _ (sym (read_outcome t e) ∙ q)))
 
-  pub start_checked : {r : Started} → reading.outcome ≡ Accepted → r ≡ start_by placement core (placing_outcome reading.tasks.fields placement core) reading.tasks.fields
+  pub start_checked : {r : Started} → reading.outcome ≡ Ok tt → r ≡ start_by placement core (placing_outcome reading.tasks.fields placement core) reading.tasks.fields
       → r ≡ start_of t placement core
   unfolding start_of
   start_checked a h =
@@ -137,19 +136,13 @@ start_alone table placement core =
 
 -- The answer for a checked task set, by the outcome of its tests.
 module _ (t : TaskSet) (placement : List ℕ) (core : ℕ) {o : Outcome} (p : o ≡ placing_outcome t.fields placement core) where
-  pub start_no : {c : Cause} {r : Started} → o ≡ Refused c → r ≡ refused_start c → r ≡ start_by placement core (placing_outcome t.fields placement core) t.fields
+  pub start_no : {c : Cause} {r : Started} → o ≡ Err c → r ≡ refused_start c → r ≡ start_by placement core (placing_outcome t.fields placement core) t.fields
   unfolding start_by
   start_no q e = e ∙ sym (by_refused refused_start (start_for placement core) t.fields (sym p ∙ q))
 
-  pub start_yes : {slots : List Slot} → o ≡ Accepted → slots ≡ fresh_slots (placed_tasks t.fields placement) core
-      → record { outcome = Accepted; core = record { slots = slots; charge = t.fields.charge } } ≡ start_by placement core (placing_outcome t.fields placement core) t.fields
+  pub start_yes : {slots : List Slot} → o ≡ Ok tt → slots ≡ fresh_slots (placed_tasks t.fields placement) core
+      → record { outcome = Ok tt; core = record { slots = slots; charge = t.fields.charge } } ≡ start_by placement core (placing_outcome t.fields placement core) t.fields
   unfolding start_by start_for
   start_yes q e =
-      ap (λ x. record { outcome = Accepted; core = record { slots = x; charge = t.fields.charge } }) e
+      ap (λ x. record { outcome = Ok tt; core = record { slots = x; charge = t.fields.charge } }) e
       ∙ sym (by_accepted refused_start (start_for placement core) t.fields (sym p ∙ q))
-
--- A loop that fills the slots of a fresh record: the slot of task k.
-pub slot-made : (f : Fields) (placement : List ℕ) (core k : ℕ) {v : Slot} {placed : ℕ} → placed ≡ entry placement k
-    → v ≡ slot_for (entry f.periods k) (entry f.budgets k) 0 placed core → v ≡ fresh_slot (placed_tasks f placement) core k
-unfolding fresh_slot
-slot-made f placement core k e q = rw e at q

@@ -1,8 +1,7 @@
 -- What an accepted and a refused fresh core are promised.
-use Rattle.std.specs.Prelude.{ℕ, ◌<◌, ◌≡◌, List, ◌≢◌, replicate}
+use Rattle.std.specs.Prelude.{ℕ, ◌<◌, ◌≡◌, List, ◌≢◌, replicate, Ok}
 use Rattle.numbers.specs.Rows.{entry}
 use Rattle.refusal.specs.Causes.{number_in}
-use Rattle.refusal.specs.declared.Outcome.TheVariants.{Accepted}
 use Rattle.fields.specs.Fields.{period_at, budget_at}
 use Rattle.taskset.specs.Table.{Table}
 use Rattle.edf.specs.Slots.{slot_at}
@@ -26,6 +25,6 @@ pub record Serves (t : Table) (placement : List ℕ) (core : ℕ) (r : Core) : T
 
 -- What is promised of the answer: an accepted core serves, a refused one is a record of zeros, its charge too.
 pub record Starts (t : Table) (placement : List ℕ) (core : ℕ) (r : Started) : Type 0 where
-  pub accepted : r.outcome ≡ Accepted → Serves t placement core r.core
+  pub accepted : r.outcome ≡ Ok tt → Serves t placement core r.core
   pub refused : number_in r.outcome ≢ 0
       → r.core ≡ record { slots = replicate 16 (record { period = 0; budget = 0; until = 0; remaining = 0 }); charge = 0 }

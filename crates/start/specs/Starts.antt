@@ -1,9 +1,8 @@
 -- What a fresh core is: the record that it starts from, by the tests of its table and of its placing.
-use Rattle.std.specs.Prelude.{ℕ, List, [], replicate}
+use Rattle.std.specs.Prelude.{ℕ, List, [], replicate, Ok, Err}
 use Rattle.refusal.specs.Tests.{◌then◌, by_outcome}
 use Rattle.refusal.specs.declared.Cause.{Cause}
-use Rattle.refusal.specs.declared.Outcome.{Outcome}
-use Rattle.refusal.specs.declared.Outcome.TheVariants.{Accepted, Refused}
+use Rattle.refusal.specs.Outcome.{Outcome}
 use Rattle.fields.specs.Most.{most_tasks}
 use Rattle.fields.specs.declared.Fields.{Fields}
 use Rattle.taskset.specs.Table.{Table}
@@ -18,11 +17,11 @@ placed_tasks f placement = record { n = f.n; periods = f.periods; budgets = f.bu
 
 -- the answer where the call is refused: a record of zeros beside the cause
 unfoldable pub refused_start : Cause → Started
-refused_start cause = record { outcome = Refused cause; core = record { slots = replicate most_tasks empty_slot; charge = 0 } }
+refused_start cause = record { outcome = Err cause; core = record { slots = replicate most_tasks empty_slot; charge = 0 } }
 
 -- the answer for fields, a placement and a core number that are accepted: the record carries the charge, that of an empty core too
 unfoldable pub start_for : List ℕ → ℕ → Fields → Started
-start_for placement core f = record { outcome = Accepted; core = record { slots = fresh_slots (placed_tasks f placement) core; charge = f.charge } }
+start_for placement core f = record { outcome = Ok tt; core = record { slots = fresh_slots (placed_tasks f placement) core; charge = f.charge } }
 
 -- the answer by the outcome of the tests and by the fields
 unfoldable pub start_by : List ℕ → ℕ → Outcome → Fields → Started

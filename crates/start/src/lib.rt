@@ -13,14 +13,15 @@ ghost use Rattle.start.specs.Promise.{Starts};
 
 use edf::Slot;
 use fields::{Fields, MOST_TASKS};
-use refusal::{Cause, Outcome};
+use refusal::Cause;
 use runner::Core;
 use taskset::TaskSet;
 
-// What a fresh core hands back: its record, or zeros and the cause of refusal.
+// What a fresh core hands back: its record, or zeros and the cause of refusal. A struct and not a `Result`: the paper asks for the zeros,
+// and `Starts` promises them.
 #[derive(Clone, Copy)]
 pub struct Started {
-    pub outcome: Outcome,
+    pub outcome: Result<(), Cause>,
     pub core: Core,
 }
 
@@ -30,8 +31,8 @@ fn fresh_slot(period: u32, budget: u32, placed: u8, core: u8) -> Slot
 {
     if placed == core {
         Slot {
-            period: period,
-            budget: budget,
+            period,
+            budget,
             until: 0,
             remaining: 0,
         }
@@ -45,28 +46,23 @@ fn fresh_slots(f: Fields, placement: &[u8], core: u8) -> [Slot; MOST_TASKS]
     requires { f.n ≤ 16 }
     ensures { result ≡ fresh_slots (placed_tasks f placement.now) core }
 {
-    let empty = slots::empty();
-    let mut slots = [empty; MOST_TASKS];
-    let mut k: usize = 0;
-    while k < f.n {
-        slots[k] = fresh_slot(f.periods[k], f.budgets[k], wire::byte(placement, k), core);
-        k += 1;
-    }
-    slots
+    numbers::row(
+        slots::empty(),
+        f.n,
+        |k| fresh_slot(f.periods[k], f.budgets[k], wire::byte(placement, k), core),
+    )
 }
 
 // A refusal, with a record of zeros beside its cause.
 fn refused(cause: Cause) -> Started
     ensures { result ≡ refused_start cause }
 {
-    let empty = slots::empty();
-    let core = Core {
-        slots: [empty; MOST_TASKS],
-        charge: 0,
-    };
     Started {
-        outcome: Outcome::Refused(cause),
-        core: core,
+        outcome: Err(cause),
+        core: Core {
+            slots: [slots::empty(); MOST_TASKS],
+            charge: 0,
+        },
     }
 }
 
@@ -75,21 +71,15 @@ pub fn start(t: TaskSet, placement: &[u8], core: u8) -> Started
     requires { Checked t }
     ensures { result ≡ start_by placement.now core (placing_outcome t.fields placement.now core) t.fields }
 {
-    let outcome = placing::placing_tests(t, placement, core);
-    match outcome {
-        Outcome::Refused(cause) => refused(cause),
-        Outcome::Accepted => {
-            let f = t.fields;
-            let slots = fresh_slots(f, placement, core);
-            let record = Core {
-                slots: slots,
-                charge: f.charge,
-            };
-            Started {
-                outcome: Outcome::Accepted,
-                core: record,
-            }
-        }
+    match placing::placing_tests(t, placement, core) {
+        Err(cause) => refused(cause),
+        Ok(()) => Started {
+            outcome: Ok(()),
+            core: Core {
+                slots: fresh_slots(t.fields, placement, core),
+                charge: t.fields.charge,
+            },
+        },
     }
 }
 
@@ -101,12 +91,8 @@ pub fn fresh(table: &[u8], charge: u32, affinity: &[u8], placement: &[u8], numbe
     ensures starts { Starts (beside table.now charge affinity.now) placement.now number result }
 {
     let reading = oldform::read_beside(table, charge, affinity);
-    let outcome = reading.outcome;
-    match outcome {
-        Outcome::Refused(cause) => refused(cause),
-        Outcome::Accepted => {
-            let tasks = reading.tasks;
-            start(tasks, placement, number)
-        }
+    match reading.outcome {
+        Err(cause) => refused(cause),
+        Ok(()) => start(reading.tasks, placement, number),
     }
 }

@@ -1,4 +1,5 @@
 -- A call that stores the fields of a sound table, once for every table, every bytes of fields and every cause.
+use Rattle.std.specs.Prelude.{Ok}
 use Prim.Native.Nat.{ℕ}
 use mathlib.Core.Path.{◌≡◌, ◌∙◌, ap}
 use mathlib.Core.List.{List, ◌++◌}
@@ -7,7 +8,6 @@ use borrow.Author.Tests.{le-ltb}
 use Rattle.refusal.specs.Causes.{number_of, place_of}
 use Rattle.refusal.specs.Tests.{◌then◌, refuse_if, by_outcome}
 use Rattle.refusal.specs.declared.Cause.{Cause}
-use Rattle.refusal.specs.declared.Outcome.TheVariants.{Accepted}
 use Rattle.refusal.proofs.ConditionLaws.{decides}
 use Rattle.taskset.specs.Table.{Table, lent, reading_of, Decided, Sound}
 use Rattle.fields.specs.declared.Fields.{Fields}
@@ -25,12 +25,12 @@ pub record Storable (bytes : Fields → List ℕ) (Form : List ℕ → Type 0) (
   pub form : t.Valid → (behind : List ℕ) → Form (bytes t.fields ++ behind)
 
 module _ (cause : Cause) (z : place_of cause ≡ 0) {bytes : Fields → List ℕ} {Form : List ℕ → Type 0} {size : ℕ} {t : Table} (s : Storable bytes Form size t) where
-  valid : t.outcome ≡ Accepted → t.Valid
+  valid : t.outcome ≡ Ok tt → t.Valid
   valid = (table_accepts s.sound).0
 
   -- the steps of a program that goes by the table's reading
   module _ {g : Reading} (c : g ≡ reading_of t) where
-    bytes_same : t.outcome ≡ Accepted → bytes g.tasks.fields ≡ bytes t.fields
+    bytes_same : t.outcome ≡ Ok tt → bytes g.tasks.fields ≡ bytes t.fields
     bytes_same q = ap bytes (read_fields t c (read_outcome t c ∙ q))
 
     pub call_answer : (room : ℕ) {r : Transfer} → r ≡ transfer_after cause g.outcome (bytes g.tasks.fields) room → r ≡ transfer_of cause bytes t room
@@ -49,10 +49,10 @@ module _ (cause : Cause) (z : place_of cause ≡ 0) {bytes : Fields → List ℕ
     pub call_stores : Stores Form size out r after
     call_stores = stored_keeps cause Form size t.outcome (bytes t.fields) out (λ q. s.long (valid q)) (λ q. s.form (valid q)) e g
 
-    pub call_valid : r.outcome ≡ Accepted → t.Valid
+    pub call_valid : r.outcome ≡ Ok tt → t.Valid
     call_valid q = valid (well cause Form size t.outcome (bytes t.fields) out (λ x. s.long (valid x)) (λ x. s.form (valid x)) e g q)
 
-    pub call_stored : r.outcome ≡ Accepted → stored_in r after ≡ bytes t.fields
+    pub call_stored : r.outcome ≡ Ok tt → stored_in r after ≡ bytes t.fields
     call_stored = stored_is cause Form size t.outcome (bytes t.fields) out (λ q. s.long (valid q)) (λ q. s.form (valid q)) e g
 
 -- A call whose table is valid gives its bytes, wherever there is room.

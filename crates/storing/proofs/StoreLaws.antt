@@ -1,5 +1,6 @@
 -- A call that stores a table: its answer and output are those of the definitions, and what these promise.
-use Prim.Native.Nat.{ℕ, ◌+◌, ◌≤◌}
+use Rattle.std.specs.Prelude.{Ok, Err}
+use Prim.Native.Nat.{ℕ, ◌≤◌}
 use mathlib.Core.Path.{◌≡◌, refl, sym, ◌∙◌, ap}
 use mathlib.Core.List.{List, [], ◌∷◌, ◌++◌}
 use mathlib.Core.Bool.{true≢false}
@@ -13,8 +14,7 @@ use Rattle.refusal.specs.Causes.{number_of, place_of, number_in}
 use Rattle.refusal.specs.Tests.{◌then◌, room_test, by_outcome}
 use Rattle.refusal.specs.Conditions.{Condition, Tested, no_room}
 use Rattle.refusal.specs.declared.Cause.{Cause}
-use Rattle.refusal.specs.declared.Outcome.{Outcome}
-use Rattle.refusal.specs.declared.Outcome.TheVariants.{Accepted, Refused}
+use Rattle.refusal.specs.Outcome.{Outcome}
 use Rattle.refusal.proofs.TestLaws.{outcome_cases, then_accepted, then_refused, refuse_if_accepted, by_says}
 use Rattle.refusal.proofs.ConditionLaws.{join_after, room_tested}
 use Rattle.refusal.proofs.CauseLaws.{number_range}
@@ -27,7 +27,7 @@ use Rattle.storing.specs.Promise.{Stores, stored_in}
 use Rattle.storing.specs.declared.Transfer.{Transfer}
 
 -- there is room where the test accepts
-room_there : (cause : Cause) (size room : ℕ) → room_test cause size room ≡ Accepted → size ≤ room
+room_there : (cause : Cause) (size room : ℕ) → room_test cause size room ≡ Ok tt → size ≤ room
 room_there cause size room e = not_less room size (λ h. true≢false (sym ((less_exactly room size).1 h) ∙ refuse_if_accepted (ltb room size) cause e))
 
 -- The steps of a program that goes by a reading, tests the room, and writes where all tests accept.
@@ -36,7 +36,7 @@ module _ (cause : Cause) (bytes : Fields → List ℕ) (size : ℕ → ℕ) (lon
   abbrev f : Fields
   f = g.tasks.fields
 
-  long_accepted : g.outcome ≡ Accepted → length (bytes f) ≡ size f.n
+  long_accepted : g.outcome ≡ Ok tt → length (bytes f) ≡ size f.n
   long_accepted q = long f (s.checked q).within
 
   same_outcome : o ≡ g.outcome then room_test cause (length (bytes f)) (length out)
@@ -46,13 +46,13 @@ module _ (cause : Cause) (bytes : Fields → List ℕ) (size : ℕ → ℕ) (lon
       (λ q. p ∙ then_refused g.outcome _ q.0 q.1 ∙ sym (then_refused g.outcome _ q.0 q.1))
       (outcome_cases g.outcome)
 
-  accepted_before : o ≡ Accepted → g.outcome ≡ Accepted
+  accepted_before : o ≡ Ok tt → g.outcome ≡ Ok tt
   accepted_before q = (then_accepted g.outcome _ (sym p ∙ q)).0
 
-  pub store_ready : o ≡ Accepted → Within f × (size f.n ≤ length out)
+  pub store_ready : o ≡ Ok tt → Within f × (size f.n ≤ length out)
   store_ready q = ((s.checked (accepted_before q)).within, room_there cause (size f.n) (length out) (then_accepted g.outcome _ (sym p ∙ q)).1)
 
-  pub store_refused : {c : Cause} {r : Transfer} → o ≡ Refused c → r ≡ transfer_by o (size f.n)
+  pub store_refused : {c : Cause} {r : Transfer} → o ≡ Err c → r ≡ transfer_by o (size f.n)
       → (r ≡ transfer_after cause g.outcome (bytes f) (length out)) × (out ≡ exit_after cause g.outcome (bytes f) out)
   unfolding transfer_after exit_after transfer_by exit_by by_outcome
   store_refused {c} q e =
@@ -60,20 +60,20 @@ module _ (cause : Cause) (bytes : Fields → List ℕ) (size : ℕ → ℕ) (lon
       let kept : out ≡ exit_by out o (bytes f) = rw q in
       (e ∙ zero ∙ ap (λ x. transfer_by x (length (bytes f))) same_outcome, kept ∙ ap (λ x. exit_by out x (bytes f)) same_outcome)
 
-  pub store_accepted : {r : Transfer} {after : List ℕ} → o ≡ Accepted → r ≡ transfer_by o (size f.n) → after ≡ bytes f ++ drop (length (bytes f)) out
+  pub store_accepted : {r : Transfer} {after : List ℕ} → o ≡ Ok tt → r ≡ transfer_by o (size f.n) → after ≡ bytes f ++ drop (length (bytes f)) out
       → (r ≡ transfer_after cause g.outcome (bytes f) (length out)) × (after ≡ exit_after cause g.outcome (bytes f) out)
   unfolding transfer_after exit_after transfer_by exit_by by_outcome
   store_accepted q e w =
       let there : bytes f ++ drop (length (bytes f)) out ≡ exit_by out o (bytes f) = rw q in
       (e ∙ ap (transfer_by o) (sym (long_accepted (accepted_before q))) ∙ ap (λ x. transfer_by x (length (bytes f))) same_outcome, w ∙ there ∙ ap (λ x. exit_by out x (bytes f)) same_outcome)
 
-  pub store_same : {after : List ℕ} → o ≡ Accepted → after ≡ bytes f ++ drop (length (bytes f)) out → length after ≡ length out
+  pub store_same : {after : List ℕ} → o ≡ Ok tt → after ≡ bytes f ++ drop (length (bytes f)) out → length after ≡ length out
   store_same q w =
       rw (w, length-append (bytes f) (drop (length (bytes f)) out), length-drop (length (bytes f)) out)
       (omega (arith, (store_ready q).1, long_accepted (accepted_before q)))
 
 -- Outcomes that are the same, with bytes that are where they accept, give the same answer and output.
-module _ (cause : Cause) {o p : Outcome} (e : o ≡ p) {b d : List ℕ} (h : p ≡ Accepted → b ≡ d) where
+module _ (cause : Cause) {o p : Outcome} (e : o ≡ p) {b d : List ℕ} (h : p ≡ Ok tt → b ≡ d) where
   pub transfer_same : (room : ℕ) → transfer_after cause o b room ≡ transfer_after cause p d room
   unfolding transfer_after transfer_by by_outcome
   transfer_same room =
@@ -108,7 +108,7 @@ stored-tested cause z before bytes size room t long = join_after t (λ n. rw (lo
 
 -- What an answer and an output of the definitions promise.
 module _ (cause : Cause) (Form : List ℕ → Type 0) (size : ℕ) (before : Outcome) (bytes out : List ℕ)
-    (long : before ≡ Accepted → length bytes ≡ size) (form : before ≡ Accepted → (behind : List ℕ) → Form (bytes ++ behind))
+    (long : before ≡ Ok tt → length bytes ≡ size) (form : before ≡ Ok tt → (behind : List ℕ) → Form (bytes ++ behind))
     {r : Transfer} {after : List ℕ} (e : r ≡ transfer_after cause before bytes (length out)) (g : after ≡ exit_after cause before bytes out) where
   abbrev all : Outcome
   all = before then room_test cause (length bytes) (length out)
@@ -117,11 +117,11 @@ module _ (cause : Cause) (Form : List ℕ → Type 0) (size : ℕ) (before : Out
   outcome_is = ap (λ x. x.outcome) e ∙ transfer_outcome cause before bytes (length out)
 
   -- of an accepted call,
-  module _ (q : r.outcome ≡ Accepted) where
-    accepted : all ≡ Accepted
+  module _ (q : r.outcome ≡ Ok tt) where
+    accepted : all ≡ Ok tt
     accepted = sym outcome_is ∙ q
 
-    pub well : before ≡ Accepted
+    pub well : before ≡ Ok tt
     well = (then_accepted before _ accepted).0
 
     room : length bytes ≤ length out
@@ -140,7 +140,7 @@ module _ (cause : Cause) (Form : List ℕ → Type 0) (size : ℕ) (before : Out
 
   -- and of a refused one
   module _ (n : number_in r.outcome ≡ 0 → ⊥) where
-    refused_by : (c : Cause) × (all ≡ Refused c)
+    refused_by : (c : Cause) × (all ≡ Err c)
     refused_by = ⊎_elim (λ q. absurd (n (ap number_in (outcome_is ∙ q)))) (λ q. q) (outcome_cases all)
 
     length_none : r.length ≡ 0

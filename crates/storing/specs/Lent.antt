@@ -1,17 +1,16 @@
 -- What a call gives that stores the fields of a table in a lent output, whatever its table, the bytes that it makes of the fields, and the
 -- cause with which it refuses an output without room.
-use Rattle.std.specs.Prelude.{ℕ, List, ◌++◌, length, drop}
+use Rattle.std.specs.Prelude.{ℕ, List, ◌++◌, length, drop, Ok, Err}
 use Rattle.refusal.specs.Tests.{◌then◌, room_test, by_outcome}
 use Rattle.refusal.specs.declared.Cause.{Cause}
-use Rattle.refusal.specs.declared.Outcome.{Outcome}
-use Rattle.refusal.specs.declared.Outcome.TheVariants.{Accepted, Refused}
+use Rattle.refusal.specs.Outcome.{Outcome}
 use Rattle.taskset.specs.Table.{Table}
 use Rattle.fields.specs.declared.Fields.{Fields}
 use Rattle.storing.specs.declared.Transfer.{Transfer}
 
 -- the answer by the outcome of all tests: the length of what is stored, or 0 beside a refusal
 unfoldable pub transfer_by : Outcome → ℕ → Transfer
-transfer_by = by_outcome (λ cause. record { outcome = Refused cause; length = 0 }) (λ size. record { outcome = Accepted; length = size })
+transfer_by = by_outcome (λ cause. record { outcome = Err cause; length = 0 }) (λ size. record { outcome = Ok tt; length = size })
 
 -- every byte of the output by the outcome of all tests: as it was, or what is stored in front of what stands behind it
 unfoldable pub exit_by : List ℕ → Outcome → List ℕ → List ℕ

@@ -29,8 +29,7 @@ pub fn pass(
     requires { (slots : List Slot) × Passing charge requests slots from to next late choice }
     ensures { (slots : List Slot) → Passing charge requests slots from to next late choice → AfterSlots charge requests slots to result.slots result.late result.choice }
 {
-    let mut done = from;
-    while done < to {
+    for done in from..to {
         let s = next[done];
         if s.period != 0 {
             let mut ready = s;
@@ -42,12 +41,11 @@ pub fn pass(
             choice = slots::choice_so_far(choice, done + 1, ready);
             next[done] = countdown::advanced(ready);
         }
-        done += 1;
     }
     Swept {
         slots: next,
-        late: late,
-        choice: choice,
+        late,
+        choice,
     }
 }
 

@@ -1,4 +1,5 @@
 -- What a sound table's reading says, and what a call that goes by it answers.
+use Rattle.std.specs.Prelude.{Ok}
 use Prim.Native.Nat.{ℕ}
 use mathlib.Core.Path.{◌≡◌, refl, sym, ◌∙◌, ap, ap₂}
 use mathlib.Core.List.{List, ◌++◌}
@@ -7,8 +8,7 @@ use Rattle.refusal.specs.Causes.{number_of, place_of}
 use Rattle.refusal.specs.Tests.{◌then◌, in_order, by_outcome}
 use Rattle.refusal.specs.Conditions.{Condition, Tested}
 use Rattle.refusal.specs.declared.Cause.{Cause}
-use Rattle.refusal.specs.declared.Outcome.{Outcome}
-use Rattle.refusal.specs.declared.Outcome.TheVariants.{Accepted}
+use Rattle.refusal.specs.Outcome.{Outcome}
 use Rattle.refusal.proofs.TestLaws.{outcome_cases, in_order-append, then_accepted, then_refused, by_accepted, by_refused, by_both}
 use Rattle.refusal.proofs.ConditionLaws.{then_reports, none-append, join_after, room_tested, decides, accepts}
 use Rattle.fields.specs.Tests.{size_tests, limit_tests, fields_outcome}
@@ -47,10 +47,10 @@ lent_sound s cause z size room = also_sound s (room_tested cause z size room)
 
 module _ {t : Table} (s : Sound t) where
   -- its tests accept exactly if it is valid
-  pub table_accepts : (t.outcome ≡ Accepted) ↔ t.Valid
+  pub table_accepts : (t.outcome ≡ Ok tt) ↔ t.Valid
   table_accepts = accepts (decides s.tested)
 
-  pub table_within : t.outcome ≡ Accepted → Within t.fields
+  pub table_within : t.outcome ≡ Ok tt → Within t.fields
   table_within e = s.within (table_accepts.0 e)
 
   -- what a call answers to a valid one
@@ -70,11 +70,11 @@ module _ (t : Table) {r : Reading} (e : r ≡ reading_of t) where
   read_outcome = ap (λ x. x.outcome) e ∙ reading_outcome t.outcome t.fields
 
   -- an accepted one is the task set of the fields
-  pub read_tasks : r.outcome ≡ Accepted → r.tasks ≡ task_set_of t.fields
+  pub read_tasks : r.outcome ≡ Ok tt → r.tasks ≡ task_set_of t.fields
   unfolding reading_of reading_by accepted_reading
   read_tasks q = ap (λ x. x.tasks) (e ∙ by_accepted refused_reading accepted_reading t.fields (sym read_outcome ∙ q))
 
-  pub read_fields : r.outcome ≡ Accepted → r.tasks.fields ≡ t.fields
+  pub read_fields : r.outcome ≡ Ok tt → r.tasks.fields ≡ t.fields
   unfolding task_set_of
   read_fields q = ap (λ x. x.fields) (read_tasks q)
 
@@ -110,10 +110,10 @@ module _ (t : Table) {r : Reading} (e : r ≡ reading_of t) where
         (λ x. ap accepted_reading (read_fields (then_accepted _ _ (sym p ∙ x)).0) ∙ sym (by_accepted refused_reading accepted_reading t.fields x))
         ∙ ap (λ x. by_outcome refused_reading accepted_reading x t.fields) also_read
 
-    pub also_well : o ≡ Accepted → r.outcome ≡ Accepted
+    pub also_well : o ≡ Ok tt → r.outcome ≡ Ok tt
     also_well q = (then_accepted _ _ (sym p ∙ q)).0
 
-    pub also-fields : o ≡ Accepted → r.tasks.fields ≡ t.fields
+    pub also-fields : o ≡ Ok tt → r.tasks.fields ≡ t.fields
     also-fields q = read_fields (also_well q)
 
 -- a valid table's reading

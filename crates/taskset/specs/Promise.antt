@@ -1,9 +1,8 @@
 -- What is promised of a reading, and of the task set that it holds.
-use Rattle.std.specs.Prelude.{ℕ, ◌+◌, ◌*◌, ◌≤◌, ◌<◌, ◌≡◌, ◌≢◌, replicate}
+use Rattle.std.specs.Prelude.{ℕ, ◌+◌, ◌*◌, ◌≤◌, ◌<◌, ◌≡◌, ◌≢◌, replicate, Ok}
 use Rattle.numbers.specs.Multiples.{IsLcm}
 use Rattle.numbers.specs.Rows.{entry}
 use Rattle.refusal.specs.Causes.{number_in}
-use Rattle.refusal.specs.declared.Outcome.TheVariants.{Accepted}
 use Rattle.fields.specs.Limits.{Within}
 use Rattle.fields.specs.Fields.{period_at, budget_at}
 use Rattle.taskset.specs.Reading.{task_set_of}
@@ -37,6 +36,6 @@ pub record RefusedReading (r : Reading) : Type 0 where
 
 -- What is promised of a reading: an accepted one is a checked and exact task set, a refused one is zeros.
 pub record Reads (r : Reading) : Type 0 where
-  pub checked : r.outcome ≡ Accepted → Checked r.tasks
-  pub exact : r.outcome ≡ Accepted → Exact r.tasks
+  pub checked : r.outcome ≡ Ok tt → Checked r.tasks
+  pub exact : r.outcome ≡ Ok tt → Exact r.tasks
   pub refused : number_in r.outcome ≢ 0 → RefusedReading r

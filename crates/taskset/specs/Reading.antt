@@ -1,10 +1,9 @@
 -- What a check of fields gives.
-use Rattle.std.specs.Prelude.{replicate}
+use Rattle.std.specs.Prelude.{replicate, Ok, Err}
 use Rattle.numbers.specs.Rows.{row}
 use Rattle.refusal.specs.Tests.{by_outcome}
 use Rattle.refusal.specs.declared.Cause.{Cause}
-use Rattle.refusal.specs.declared.Outcome.{Outcome}
-use Rattle.refusal.specs.declared.Outcome.TheVariants.{Accepted, Refused}
+use Rattle.refusal.specs.Outcome.{Outcome}
 use Rattle.fields.specs.Most.{most_tasks}
 use Rattle.fields.specs.Hyperperiod.{hyperperiod_of}
 use Rattle.taskset.specs.Demands.{demand_of}
@@ -26,11 +25,11 @@ no_tasks = record {
 
 -- the answer where fields are refused: zeros beside the cause
 unfoldable pub refused_reading : Cause → Reading
-refused_reading cause = record { outcome = Refused cause; tasks = no_tasks }
+refused_reading cause = record { outcome = Err cause; tasks = no_tasks }
 
 -- the answer where they are accepted
 unfoldable pub accepted_reading : Fields → Reading
-accepted_reading f = record { outcome = Accepted; tasks = task_set_of f }
+accepted_reading f = record { outcome = Ok tt; tasks = task_set_of f }
 
 -- the whole answer, by the outcome of the tests
 unfoldable pub reading_by : Outcome → Fields → Reading

@@ -3,7 +3,7 @@ use Rattle.std.specs.Prelude.{ℕ, ◌≤◌, List, [], ◌∷◌, ◌++◌}
 use Rattle.refusal.specs.Tests.{◌then◌, room_test}
 use Rattle.refusal.specs.Conditions.{Condition, Decides, Tested, no_room}
 use Rattle.refusal.specs.declared.Cause.{Cause}
-use Rattle.refusal.specs.declared.Outcome.{Outcome}
+use Rattle.refusal.specs.Outcome.{Outcome}
 use Rattle.taskset.specs.Reading.{reading_by}
 use Rattle.fields.specs.Tests.{fields_outcome}
 use Rattle.fields.specs.Limits.{Within, field_conditions}

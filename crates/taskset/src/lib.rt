@@ -4,7 +4,6 @@
 ghost use Rattle.std.specs.Prelude.{◌≡◌, ◌/◌, ◌≤◌, ◌<◌};
 ghost use Rattle.numbers.specs.Rows.{row};
 ghost use Rattle.refusal.specs.Tests.{◌then◌, in_order};
-ghost use Rattle.refusal.specs.declared.Outcome.TheVariants.{Accepted};
 ghost use Rattle.fields.specs.Hyperperiod.{hyperperiod_of};
 ghost use Rattle.fields.specs.Tests.{limit_tests};
 ghost use Rattle.fields.specs.Limits.{Sized, Within};
@@ -14,7 +13,7 @@ ghost use Rattle.taskset.specs.Promise.{Reads};
 ghost use Rattle.taskset.specs.Table.{bare, reading_of, Decided};
 
 use fields::{Fields, MOST_TASKS};
-use refusal::{Cause, Outcome};
+use refusal::Cause;
 
 // A task set: fields within the limits, their hyperperiod (the paper's frame H) and the exact demand (its weight) of each task.
 #[derive(Clone, Copy)]
@@ -27,7 +26,7 @@ pub struct TaskSet {
 // The answer of a check of fields, and so of every reader: a refusal has zeros beside its cause.
 #[derive(Clone, Copy)]
 pub struct Reading {
-    pub outcome: Outcome,
+    pub outcome: Result<(), Cause>,
     pub tasks: TaskSet,
 }
 
@@ -52,14 +51,7 @@ fn demands(f: Fields, h: u32) -> [u32; MOST_TASKS]
     requires { Within f × (h ≡ hyperperiod_of f) }
     ensures { result ≡ row 0 f.n (demand_of f) }
 {
-    let mut entries = [0u32; MOST_TASKS];
-    let mut k = 0;
-    while k < f.n {
-        let next = numbers::with_number(entries, k, demand(f, h, k));
-        entries = next;
-        k += 1;
-    }
-    entries
+    numbers::row(0, f.n, |k| demand(f, h, k))
 }
 
 // A refusal, with zeros beside its cause.
@@ -76,13 +68,13 @@ fn refused(cause: Cause) -> Reading
         given: 0,
     };
     let tasks = TaskSet {
-        fields: fields,
+        fields,
         hyperperiod: 0,
         demands: [0; MOST_TASKS],
     };
     Reading {
-        outcome: Outcome::Refused(cause),
-        tasks: tasks,
+        outcome: Err(cause),
+        tasks,
     }
 }
 
@@ -91,16 +83,15 @@ fn accepted(f: Fields) -> Reading
     requires { Within f }
     ensures { result ≡ accepted_reading f }
 {
-    let h = hyperperiod::common_multiple(f).value;
-    let d = demands(f, h);
+    let h = hyperperiod::common_multiple(f).unwrap();
     let tasks = TaskSet {
         fields: f,
         hyperperiod: h,
-        demands: d,
+        demands: demands(f, h),
     };
     Reading {
-        outcome: Outcome::Accepted,
-        tasks: tasks,
+        outcome: Ok(()),
+        tasks,
     }
 }
 
@@ -109,34 +100,31 @@ fn check_limits(f: Fields) -> Reading
     requires { Sized f }
     ensures { result ≡ reading_by (in_order (limit_tests f)) f }
 {
-    let limits = limits::limit_tests(f);
-    match limits {
-        Outcome::Refused(cause) => refused(cause),
-        Outcome::Accepted => accepted(f),
+    match limits::limit_tests(f) {
+        Err(cause) => refused(cause),
+        Ok(()) => accepted(f),
     }
 }
 
 // The answer for fields after tests that a stored form makes before those of the limits; they include those of the sizes.
-pub fn check_after(before: Outcome, f: Fields) -> Reading
-    requires { before ≡ Accepted → Sized f }
+pub fn check_after(before: Result<(), Cause>, f: Fields) -> Reading
+    requires { before ≡ Ok tt → Sized f }
     ensures { result ≡ reading_by (before then in_order (limit_tests f)) f }
 {
     match before {
-        Outcome::Refused(cause) => refused(cause),
-        Outcome::Accepted => check_limits(f),
+        Err(cause) => refused(cause),
+        Ok(()) => check_limits(f),
     }
 }
 
 // A reading with tests of a call behind those that it went by.
-pub fn also(reading: Reading, tests: Outcome) -> Reading
+pub fn also(reading: Reading, tests: Result<(), Cause>) -> Reading
     requires { Reads reading }
     ensures { result ≡ reading_by (reading.outcome then tests) reading.tasks.fields }
 {
-    let read = reading.outcome;
-    let outcome = refusal::then(read, tests);
-    match outcome {
-        Outcome::Refused(cause) => refused(cause),
-        Outcome::Accepted => reading,
+    match refusal::then(reading.outcome, tests) {
+        Err(cause) => refused(cause),
+        Ok(()) => reading,
     }
 }
 

@@ -4,7 +4,7 @@
 ghost use Rattle.std.specs.Prelude.{◌≡◌, [], ◌∷◌, length};
 ghost use Rattle.text.specs.Shown.{shown, Appended};
 
-// The first `length` bytes are shown.
+// The first `length` bytes are shown. A row and its length, since no crate takes memory from a heap.
 #[derive(Clone, Copy)]
 pub struct Text {
     pub bytes: [u8; 2560],
@@ -39,11 +39,8 @@ pub fn append_bytes(t: Text, bytes: &[u8]) -> Text
     ensures { Appended t bytes.now (length bytes.now) result }
 {
     let mut longer = t;
-    let mut i = 0;
-    while i < bytes.len() {
-        let next = append_byte(longer, bytes[i]);
-        longer = next;
-        i += 1;
+    for b in bytes {
+        longer = append_byte(longer, *b);
     }
     longer
 }

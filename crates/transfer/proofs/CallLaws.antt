@@ -1,4 +1,5 @@
 -- The writer and the moves: their tables are sound and storable, and what they promise.
+use Rattle.std.specs.Prelude.{Ok}
 use Prim.Native.Nat.{ℕ, ◌+◌, ◌*◌, ◌≤◌}
 use mathlib.Core.Path.{◌≡◌, refl, sym, ◌∙◌, ap}
 use mathlib.Core.List.{List, [], ◌∷◌, ◌++◌}
@@ -6,8 +7,7 @@ use lib.ListN.{length, get_or, length-replicate}
 use Rattle.wire.specs.Bytes.{Bytes}
 use Rattle.refusal.specs.Tests.{◌then◌}
 use Rattle.refusal.specs.declared.Cause.TheVariants.{Buffer}
-use Rattle.refusal.specs.declared.Outcome.{Outcome}
-use Rattle.refusal.specs.declared.Outcome.TheVariants.{Accepted}
+use Rattle.refusal.specs.Outcome.{Outcome}
 use Rattle.refusal.proofs.ConditionLaws.{unnamed}
 use Rattle.fields.specs.Fields.{Free, cut}
 use Rattle.fields.specs.Tests.{fields_outcome}
@@ -87,7 +87,7 @@ module _ (f : Fields) where
     unfolding written new_bytes
     write_unread h a =
         let o : fields_outcome (counted h) ≡ fields_outcome (counted f) = sym (outcome_alike f h a) in
-        let b : fields_outcome (counted f) ≡ Accepted → new_bytes h ≡ new_bytes f = λ q. sym (bytes_alike f h a (tested_within (counted f) q) (tested_within (counted h) (o ∙ q))) in
+        let b : fields_outcome (counted f) ≡ Ok tt → new_bytes h ≡ new_bytes f = λ q. sym (bytes_alike f h a (tested_within (counted f) q) (tested_within (counted h) (o ∙ q))) in
         (transfer_same Buffer o b (length out) ∙ sym e, output_same Buffer o b out ∙ sym g)
 
 -- writing what was read gives the bytes

@@ -1,4 +1,5 @@
 -- The tests of fields, and their bytes, depend on the first n entries alone.
+use Rattle.std.specs.Prelude.{Ok}
 use Prim.Native.Nat.{ℕ, ◌+◌, ◌≤◌, ◌<◌}
 use mathlib.Core.Path.{◌≡◌, refl, sym, ◌∙◌, ap}
 use mathlib.Core.Bool.{Bool}
@@ -12,7 +13,6 @@ use Rattle.numbers.proofs.FirstLaws.{first_cong}
 use Rattle.numbers.proofs.MultipleLaws.{lcms_cong}
 use Rattle.numbers.proofs.RowLaws.{get_or-row, by_entries}
 use Rattle.wire.proofs.WriteBackLaws.{front_long}
-use Rattle.refusal.specs.declared.Outcome.TheVariants.{Accepted}
 use Rattle.refusal.proofs.ConditionLaws.{decides, accepts}
 use Rattle.fields.specs.Most.{most_tasks, most_multiple}
 use Rattle.fields.specs.Fields.{period_at, budget_at, affinity_at, cut, Alike}
@@ -25,7 +25,7 @@ use Rattle.newform.specs.Form.{new_bytes}
 use Rattle.transfer.specs.Tables.{counted}
 
 -- fields that the tests accept are within the limits
-pub tested_within : (f : Fields) → fields_outcome f ≡ Accepted → Within f
+pub tested_within : (f : Fields) → fields_outcome f ≡ Ok tt → Within f
 tested_within f q = (accepts (decides (fields-tested f))).0 q
 
 -- rows that are equal up to n have the same front

@@ -5,7 +5,7 @@ use Rattle.affinity.specs.Permitted.{every_core}
 use Rattle.refusal.specs.Tests.{refuse_if}
 use Rattle.refusal.specs.Conditions.{Condition, only}
 use Rattle.refusal.specs.declared.Cause.TheVariants.{Filling}
-use Rattle.refusal.specs.declared.Outcome.{Outcome}
+use Rattle.refusal.specs.Outcome.{Outcome}
 use Rattle.fields.specs.Fields.{affinity_at, Free, Tied}
 use Rattle.fields.specs.Tests.{fields_outcome}
 use Rattle.fields.specs.Limits.{Within, sizes, charge_above, period_outside, budget_outside, cost_above, affinity_unfit, multiple_above}

@@ -15,25 +15,14 @@ ghost use Rattle.transfer.specs.Tables.{counted as counted_fields, written, othe
 ghost use Rattle.transfer.specs.Promise.{ReadBack, Unread, MovedOn, MovedBack};
 
 use fields::Fields;
-use refusal::{Cause, Outcome};
-use storing::Transfer;
+use refusal::Cause;
+use storing::{New, Old, Transfer};
 
 // Fields with a core byte for each task, as the new form has it.
 fn counted(f: Fields) -> Fields
     ensures { result ≡ counted_fields f }
 {
-    let periods = f.periods;
-    let budgets = f.budgets;
-    let affinity = f.affinity;
-    Fields {
-        n: f.n,
-        m: f.m,
-        periods: periods,
-        budgets: budgets,
-        charge: f.charge,
-        affinity: affinity,
-        given: f.n,
-    }
+    Fields { given: f.n, ..f }
 }
 
 // Whether the core byte of task `k` is another than that of every core.
@@ -44,28 +33,13 @@ fn is_other_byte(f: Fields, k: usize) -> bool
     f.affinity[k] != affinity::every_core(f.m)
 }
 
-// The first task, from 1, with such a core byte; 0 if there is none.
-fn first_other_byte(f: Fields) -> usize
-    requires { f.n ≤ 16 }
-    ensures { result ≡ first (other_byte f) f.n }
-{
-    let mut k = 0;
-    while k < f.n {
-        if is_other_byte(f, k) {
-            return k + 1;
-        }
-        k += 1;
-    }
-    0
-}
-
 // Number 18.
-fn filling_test(f: Fields) -> Outcome
+fn filling_test(f: Fields) -> Result<(), Cause>
     requires { f.n ≤ 16 }
     ensures { result ≡ filling_test f }
 {
-    let task = first_other_byte(f);
-    refusal::refuse_if((f.charge != 0) | (task != 0), Cause::Filling)
+    let task = numbers::first(f.n, |k| is_other_byte(f, k));
+    refusal::refuse_if((f.charge != 0) | task.is_some(), Cause::Filling)
 }
 
 // Writes fields to an output in the new form, if they are within the limits. Entries beyond n are not read.
@@ -78,7 +52,7 @@ pub fn write_new(f: Fields, out: &mut [u8]) -> Transfer
     ensures unread { Unread f out.old result out.new }
 {
     let reading = taskset::check(counted(f));
-    storing::store_new(reading, out)
+    storing::store::<New>(reading, out)
 }
 
 // Moves a table of the old form to an output in the new form: the charge is 0, and each task may use every core.
@@ -90,7 +64,7 @@ pub fn to_new(table: &[u8], out: &mut [u8]) -> Transfer
     ensures moved { MovedOn table.now result out.new }
 {
     let reading = oldform::read_alone(table);
-    storing::store_new(reading, out)
+    storing::store::<New>(reading, out)
 }
 
 // Moves a table of the new form with exactly those fillings back to the old form.
@@ -104,5 +78,5 @@ pub fn to_old(table: &[u8], out: &mut [u8]) -> Transfer
     let read = newform::read_new(table);
     let filling = filling_test(read.tasks.fields);
     let reading = taskset::also(read, filling);
-    storing::store_old(reading, out)
+    storing::store::<Old>(reading, out)
 }

@@ -10,12 +10,10 @@ fn some_empty_twin(loads: &[u32; 4], rows: &[bool; 16], k: u32) -> bool
     requires { k < 4 }
     ensures { result ≡ some_zero_twin loads.now rows.now k k }
 {
-    let mut d: u32 = 0;
-    while d < k {
+    for d in 0..k {
         if (loads[d as usize] == 0) & rows[(4 * k + d) as usize] {
             return true;
         }
-        d += 1;
     }
     false
 }

@@ -17,7 +17,7 @@ pub struct Found {
 
 // The walk itself. `path` holds the choices made, `loads` the cores' loads, `out` the rejected demand, `best` the stored
 // placement, and `next` how many choices have been tried for the task at `depth`: the cores from 1 upward, then leaving
-// it out.
+// it out. Nested loops with labels, and placement and loads by value, are the paper's form.
 pub fn walk(
     demands: [u32; 16],
     affinity: [u8; 16],
@@ -62,7 +62,7 @@ pub fn walk(
                 let last = path[depth] as u32;
                 let freed = demands[depth];
                 loads = blend::with_less(loads, last, freed);
-                out -= blend::pick(last, 0, freed, 0);
+                out -= blend::pick(last == 0, freed, 0);
                 next = branch::resume(m, last, out, bound);
                 break 'choices;
             }
@@ -75,14 +75,14 @@ pub fn walk(
             path = paths::with_choice(path, (depth % 256) as u8, c as u8);
             if depth < deepest {
                 loads = blend::with_more(loads, c, demand);
-                out += blend::pick(c, 0, demand, 0);
+                out += blend::pick(c == 0, demand, 0);
                 depth += 1;
                 next = 0;
                 break 'choices;
             }
             // The last task's choice completes a placement.
             best = path;
-            rejected = out + blend::pick(c, 0, demand, 0);
+            rejected = out + blend::pick(c == 0, demand, 0);
             bound = rejected;
             // No placement rejects less than the excess: nothing is entered any more.
             if bound <= excess {

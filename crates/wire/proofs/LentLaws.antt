@@ -7,14 +7,11 @@ use lib.Seq.{sets-eq, length-sets, length-take-le, take_at, drop_at, drop-drop, 
 use native.Mathlib.Nat.{add_assoc, mul-add, mul-one, mul-le-mul_left}
 use native.Mathlib.Numerals.{add-one, add-two, add-three}
 use native.Mathlib.Omega.{arith}
+use borrow.Rule.Slice.PartMut.{put_mid}
 use Rattle.wire.specs.Bytes.{bytes_of, bytes_of_all, over}
 use Rattle.wire.proofs.ReadBackLaws.{length-bytes}
 
 -- straight-line stores
-pub over-one : (l : List ℕ) (i a : ℕ) → i < length l → set l i a ≡ over l i (a ∷ [])
-unfolding over
-over-one l i a h = sets-eq (a ∷ []) l i (omega arith)
-
 pub over-two : (l : List ℕ) (i a b : ℕ) → i + 2 ≤ length l → set (set l i a) (i + 1) b ≡ over l i (a ∷ b ∷ [])
 unfolding over
 over-two l i a b h = rw (add-one i) (sets-eq (a ∷ b ∷ []) l i h)
@@ -32,6 +29,11 @@ over_none l i h = sets-eq [] l i (omega arith)
 pub length_over : (l : List ℕ) (i : ℕ) (vs : List ℕ) → i + length vs ≤ length l → length (over l i vs) ≡ length l
 unfolding over
 length_over l i vs h = ap length (sym (sets-eq vs l i h)) ∙ length-sets l i vs
+
+-- a part of the output that other bytes were copied into, as many as it has
+pub over_part : (l : List ℕ) (at k : ℕ) {ys vs : List ℕ} → ys ≡ vs → k ≡ length vs → put_mid at k l ys ≡ over l at vs
+unfolding over
+over_part l at k {vs = vs} e w = rw (e, w, drop-drop (length vs) at l) (sym (append_assoc (take at l) vs (drop (at + length vs) l)))
 
 -- from the front: the bytes, then what stood behind them
 pub over-front : (l vs : List ℕ) → over l 0 vs ≡ vs ++ drop (length vs) l
@@ -77,15 +79,12 @@ module _ {l : List ℕ} {at n w : ℕ} {there : ℕ → List ℕ} {o : List ℕ}
         is = rw more (over_next l at (at + w * k) (there k) vs s.is e (rw long) (rw long (omega arith)));
       }
 
-  pub put_done : Put l at n w there o k → n ≤ k → o ≡ over l at (there n)
-  put_done s h = let e : k ≡ n = omega (arith, s.top) in rw e at s.is
-
 -- The bytes of a row of numbers.
 bytes-append : (xs ys : List ℕ) → bytes_of_all (xs ++ ys) ≡ bytes_of_all xs ++ bytes_of_all ys
 bytes-append [] ys = refl
 bytes-append (x ∷ xs) ys = ap (λ l. bytes_of x ++ l) (bytes-append xs ys)
 
--- The steps of `put_words` and `put_bytes` (`packing`): after k turns the first k entries of the row are there.
+-- The steps of `put_words` (`packing`): after k turns the first k entries of the row are there.
 module _ (row : List ℕ) (k : ℕ) (h : k < length row) where
   front_next : take (k + 1) row ≡ take k row ++ get_or row k 0 ∷ []
   front_next = rw add-one (take-suc row k 0 h)
@@ -99,12 +98,6 @@ module _ (row : List ℕ) (k : ℕ) (h : k < length row) where
     words_next s g e =
         put_next (bytes_of (get_or row k 0)) s g (length-bytes (take k row) ∙ rw front_long) refl
         (rw front_next (bytes-append (take k row) (get_or row k 0 ∷ []))) e
-
-    pub bytes_next : Put l at n 1 (λ j. take j row) o k → k < n → r ≡ set o (at + k) (get_or row k 0) → Put l at n 1 (λ j. take j row) r (k + 1)
-    bytes_next s g e =
-        let i : at + k ≡ at + 1 * k = omega arith in
-        put_next (get_or row k 0 ∷ []) s g (front_long ∙ omega arith) refl front_next
-        (e ∙ over-one o (at + k) (get_or row k 0) (omega (arith, s.fits, s.size)) ∙ ap (λ j. over o j (get_or row k 0 ∷ [])) i)
 
 -- the front of a row, from the front of an output
 pub front_put : (l row : List ℕ) (n : ℕ) {r : List ℕ} → n ≤ length row → r ≡ over l 0 (take n row) → r ≡ take n row ++ drop n l

@@ -8,21 +8,21 @@ ghost use Rattle.wire.specs.Bytes.{le32};
 pub fn byte(s: &[u8], at: usize) -> u8
     ensures { result ≡ get_or s.now at 0 }
 {
-    if at < s.len() { s[at] } else { 0 }
+    s.get(at).copied().unwrap_or(0)
 }
 
 // A byte as a 32-bit number.
 pub fn wide(b: u8) -> u32
     ensures { (result ≡ b) × (result < 256) }
 {
-    b as u32
+    u32::from(b)
 }
 
 // A byte as a size.
 pub fn size(b: u8) -> usize
     ensures { (result ≡ b) × (result < 256) }
 {
-    b as usize
+    usize::from(b)
 }
 
 // The number in the four bytes of `s` from `at`, lowest byte first; bytes past the end are 0.
@@ -32,9 +32,10 @@ pub fn word(s: &[u8], at: usize) -> u32
     if s.len() <= at {
         return 0;
     }
-    let b0 = wide(byte(s, at));
-    let b1 = wide(byte(s, at + 1));
-    let b2 = wide(byte(s, at + 2));
-    let b3 = wide(byte(s, at + 3));
-    b0 + 256 * b1 + 65536 * b2 + 16777216 * b3
+    u32::from_le_bytes([
+        byte(s, at),
+        byte(s, at + 1),
+        byte(s, at + 2),
+        byte(s, at + 3),
+    ])
 }

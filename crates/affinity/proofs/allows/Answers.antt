@@ -13,4 +13,4 @@ returns-then-choice-gt8 c =
     (omega (arith, c.if-choice-gt8.true), above_eight c.args.byte c.args.choice (search rules) c.if-choice-gt8.true))
 
 pub returns : goal.returns
-returns c = c.permits.ensures ∙ core_is c.args.byte c.args.choice (omega (arith, c.if-choice-eq0.false))
+returns c = c.permits.ensures ∙ rw c.from.ensures (core_is c.args.byte c.args.choice (omega (arith, c.if-choice-eq0.false)))

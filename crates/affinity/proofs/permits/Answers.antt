@@ -7,4 +7,4 @@ use Rattle.affinity.proofs.permits.Goals as goal
 
 pub returns : goal.returns
 unfolding permitted
-returns c = ap (λ (i : ℕ). eqb (c.args.byte / 2 ^ pred i % 2) 1) (sym (add-one c.args.below))
+returns c = rw c.from.ensures (ap (λ (i : ℕ). eqb (c.args.byte / 2 ^ pred i % 2) 1) (sym (add-one c.args.below)))

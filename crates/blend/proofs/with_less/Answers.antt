@@ -8,8 +8,8 @@ use Rattle.blend.proofs.with_less.Goals as goal
 pub loop-k-init : goal.loop-k-init
 loop-k-init c = cores_start ◌-◌ sub-zero _ _ _
 
-pub overflow_sub-entry : goal.overflow_sub-entry
-overflow_sub-entry c = search (rules, cores_less)
+pub overflow_sub-loads : goal.overflow_sub-loads
+overflow_sub-loads c = search (rules, cores_less)
 
 pub loop-k-preserved : goal.loop-k-preserved
 loop-k-preserved c = cores_next ◌-◌ sub-zero c.loop-k.invariant c.pick.ensures (search rules)

@@ -5,6 +5,3 @@ use Rattle.blend.proofs.with_less.Given as goal
 
 abbrev pub invariant-loop-k : goal.invariant-loop-k
 invariant-loop-k l = OnCores ◌-◌ l.initial.loads l.c l.d l.loads l.k
-
-abbrev pub decreases-loop-k : goal.decreases-loop-k
-decreases-loop-k l = 4 - l.k

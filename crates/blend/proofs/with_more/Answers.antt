@@ -9,8 +9,8 @@ pub loop-k-init : goal.loop-k-init
 loop-k-init c = cores_start ◌+◌ add-zero _ _ _
 
 -- the sum with what is picked fits
-pub overflow_add-entry : goal.overflow_add-entry
-overflow_add-entry c = record { fits = cores_more c.pick.ensures c.loop-k.invariant c.requires.1 }
+pub overflow_add-loads : goal.overflow_add-loads
+overflow_add-loads c = record { fits = cores_more c.pick.ensures c.loop-k.invariant c.requires.1 }
 
 pub loop-k-preserved : goal.loop-k-preserved
 loop-k-preserved c = cores_next ◌+◌ add-zero c.loop-k.invariant c.pick.ensures (search rules)

@@ -1,10 +1,10 @@
--- No more has been taken than was asked for, and what was taken is written.
-use Rattle.std.proofs.Common.{◌≤◌, ◌-◌, take}
+-- No more has been taken than there is, and what was taken is written.
+use Rattle.std.proofs.Common.{◌≤◌, ◌-◌, length, take}
 use Rattle.std.specs.Io.KnownBytes.{Appends}
 use Rattle.console.proofs.write_bytes.Given as goal
 
 abbrev pub invariant-loop-done : goal.invariant-loop-done
-invariant-loop-done g l = (l.done ≤ l.n) × Appends (g.W.Write.contents l.fn.output) (g.W.Write.contents l.output) (take l.done l.bytes)
+invariant-loop-done g l = (l.done ≤ length l.bytes) × Appends (g.W.Write.contents l.fn.output) (g.W.Write.contents l.output) (take l.done l.bytes)
 
 abbrev pub decreases-loop-done : goal.decreases-loop-done
-decreases-loop-done g l = l.n - l.done
+decreases-loop-done g l = length l.bytes - l.done

@@ -1,10 +1,15 @@
 -- A number more each turn.
 use Rattle.std.proofs.Common.{rules, refl}
-use Rattle.decimal.proofs.JoinLaws.{join_start, join_next}
+use native.Mathlib.Nat.{le_refl}
+use Rattle.decimal.specs.Decimal.{field}
+use Rattle.decimal.proofs.JoinLaws.{join_start, join_item, join_done}
 use Rattle.decimal.proofs.append_numbers.Goals as goal
 
-pub loop-k-init : goal.loop-k-init
-loop-k-init c = join_start _ _ _ _ _ (search rules) refl
+pub loop-x-init : goal.loop-x-init
+loop-x-init g c = λ f e. join_start _ _ _ _ _ (search rules) refl
 
-pub loop-k-preserved : goal.loop-k-preserved
-loop-k-preserved c = join_next _ c.loop-k.invariant c.loop-k-test.true c.append_field-next.ensures
+pub loop-x-preserved : goal.loop-x-preserved
+loop-x-preserved g c = λ f e. search (rules, join_item field f, c.loop-x.invariant f e, e)
+
+pub returns : goal.returns
+returns g c = λ f e. join_done _ (c.loop-x.invariant f e) c.loop-x-test.false (le_refl _)

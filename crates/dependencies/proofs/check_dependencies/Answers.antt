@@ -7,12 +7,12 @@ use Rattle.dependencies.proofs.check_dependencies.Goals as goal
 pub order_tasks-requires : goal.order_tasks-requires
 order_tasks-requires c = (c.read_new-reading.ensures.reads.checked (search rules)).within.sizes.tasks.1
 
-pub returns-in-Refused : goal.returns-in-Refused
-returns-in-Refused c =
+pub returns-in-Err : goal.returns-in-Err
+returns-in-Err c =
     let said = order-all (new_sound _) (new-below _) _ (search (rules, order_refused)) in
     record { answer = said.0; decides = said.1.0; promise = said.1.1 }
 
-pub returns-in-Accepted : goal.returns-in-Accepted
-returns-in-Accepted c =
+pub returns-in-Ok : goal.returns-in-Ok
+returns-in-Ok c =
     let said = order-all (new_sound _) (new-below _) _ (search (rules, order_read)) in
     record { answer = said.0; decides = said.1.0; promise = said.1.1 }

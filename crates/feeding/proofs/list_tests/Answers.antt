@@ -1,8 +1,16 @@
--- The tests in order.
-use Rattle.refusal.proofs.TestLaws.{order_step, order_last}
+-- The tests are made in their order.
+use borrow.Author.Rules.{rules}
+use Rattle.refusal.specs.Tests.{in_order, ◌then◌}
 use Rattle.feeding.proofs.list_tests.Goals as goal
 
+pub returns-in_err-list_test : goal.returns-in_err-list_test
+unfolding in_order ◌then◌
+returns-in_err-list_test c = search rules
+
+pub returns-in_err-pairs_test : goal.returns-in_err-pairs_test
+unfolding in_order ◌then◌
+returns-in_err-pairs_test c = search rules
+
 pub returns : goal.returns
-returns c =
-    order_step _ c.then-2.ensures c.list_test-shape.ensures
-    (order_step _ c.then.ensures c.pairs_test-fit.ensures (order_last c.circle_test-open.ensures))
+unfolding in_order ◌then◌
+returns c = search rules

@@ -1,10 +1,7 @@
 -- The pairs so far are in the cells.
-use Prim.Native.Nat.{◌-◌}
-use Rattle.feeding.proofs.ListLaws.{Gathering}
+use Rattle.relation.specs.Cells.{Cells}
+use Rattle.pairs.specs.Pairs.{said_by}
 use Rattle.feeding.proofs.relation_of.Given as goal
 
 abbrev pub invariant-loop-i : goal.invariant-loop-i
-invariant-loop-i l = Gathering l.list l.k l.cells l.i
-
-abbrev pub decreases-loop-i : goal.decreases-loop-i
-decreases-loop-i l = l.k - l.i
+invariant-loop-i l = Cells l.cells (said_by l.list l.i)

@@ -1,5 +1,5 @@
 -- The loop's invariant is `Fitting`: the choices so far are the beginning of first fit.
-use Prim.Native.Nat.{suc, ◌-◌}
+use Prim.Native.Nat.{suc}
 use native.Mathlib.Omega.{arith}
 use Rattle.firstfit.proofs.Fitting.{fit_start, fit_room, out_room, core_small, fit_next, fit_done}
 use borrow.Author.Rules.{rules}

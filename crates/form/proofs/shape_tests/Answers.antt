@@ -1,11 +1,17 @@
--- The tests are joined in their order.
-use mathlib.Core.Path.{◌∙◌, ap, ap₂}
-use Rattle.refusal.specs.Tests.{◌then◌}
+-- The tests are made in their order.
+use borrow.Author.Rules.{rules}
+use Rattle.refusal.specs.Tests.{◌then◌, in_order}
 use Rattle.form.specs.Shape.{shape_outcome}
 use Rattle.form.proofs.shape_tests.Goals as goal
 
+pub returns-in_err-front : goal.returns-in_err-front
+unfolding shape_outcome ◌then◌ in_order
+returns-in_err-front c = search rules
+
+pub returns-in_err-size_tests : goal.returns-in_err-size_tests
+unfolding shape_outcome ◌then◌ in_order
+returns-in_err-size_tests c = search rules
+
 pub returns : goal.returns
-unfolding shape_outcome
-returns c =
-    let front = c.args.front in
-    c.then.ensures ∙ ap₂ ◌then◌ (c.then-first.ensures ∙ ap (λ x. front then x) c.size_tests-sizes.ensures) c.length_test-exact.ensures
+unfolding shape_outcome ◌then◌ in_order
+returns c = search rules

@@ -1,5 +1,4 @@
 -- The running multiple, task by task, until it exceeds 1,000,000.
-use Prim.Native.Nat.{◌-◌}
 use Rattle.hyperperiod.proofs.MultipleLaws.{multiply_start, multiply_next, multiply_exceeded, multiply_done}
 use Rattle.hyperperiod.proofs.common_multiple.Goals as goal
 

@@ -1,10 +1,6 @@
 -- The running multiple, task by task, until it exceeds 1,000,000.
-use Prim.Native.Nat.{◌-◌}
 use Rattle.hyperperiod.proofs.MultipleLaws.{Multiplying}
 use Rattle.hyperperiod.proofs.common_multiple.Given as goal
 
 abbrev pub invariant-loop-k : goal.invariant-loop-k
 invariant-loop-k l = Multiplying l.f l.k l.h
-
-abbrev pub decreases-loop-k : goal.decreases-loop-k
-decreases-loop-k l = l.f.n - l.k

@@ -1,13 +1,32 @@
--- The tests are joined in their order.
-use Rattle.refusal.proofs.TestLaws.{order_step, order_last}
+-- The tests are made in their order.
+use borrow.Author.Rules.{rules}
+use Rattle.refusal.specs.Tests.{in_order, ◌then◌}
 use Rattle.limits.proofs.limit_tests.Goals as goal
 
+pub returns-in_err-charge_test : goal.returns-in_err-charge_test
+unfolding in_order ◌then◌
+returns-in_err-charge_test c = search rules
+
+pub returns-in_err-periods_test : goal.returns-in_err-periods_test
+unfolding in_order ◌then◌
+returns-in_err-periods_test c = search rules
+
+pub returns-in_err-budgets_test : goal.returns-in_err-budgets_test
+unfolding in_order ◌then◌
+returns-in_err-budgets_test c = search rules
+
+pub returns-in_err-costs_test : goal.returns-in_err-costs_test
+unfolding in_order ◌then◌
+returns-in_err-costs_test c = search rules
+
+pub returns-in_err-row_test : goal.returns-in_err-row_test
+unfolding in_order ◌then◌
+returns-in_err-row_test c = search rules
+
+pub returns-in_err-affinity_test : goal.returns-in_err-affinity_test
+unfolding in_order ◌then◌
+returns-in_err-affinity_test c = search rules
+
 pub returns : goal.returns
-returns c =
-    order_step _ c.then.ensures c.charge_test-charge.ensures
-    (order_step _ c.then-from_periods.ensures c.periods_test-periods.ensures
-    (order_step _ c.then-from_budgets.ensures c.budgets_test-budgets.ensures
-    (order_step _ c.then-from_costs.ensures c.costs_test-costs.ensures
-    (order_step _ c.then-from_row.ensures c.row_test-row.ensures
-    (order_step _ c.then-from_affinity.ensures c.affinity_test-affinity.ensures
-    (order_last c.hyperperiod_test-hyperperiod.ensures))))))
+unfolding in_order ◌then◌
+returns c = search rules

@@ -1,10 +1,6 @@
 -- The sum so far is the load of the tasks that were added.
-use Prim.Native.Nat.{◌-◌}
 use Rattle.loads.proofs.LoadLaws.{Adding}
 use Rattle.loads.proofs.load_on.Given as goal
 
 abbrev pub invariant-loop-k : goal.invariant-loop-k
 invariant-loop-k l = Adding l.t l.placement l.core l.sum l.k
-
-abbrev pub decreases-loop-k : goal.decreases-loop-k
-decreases-loop-k l = l.t.fields.n - l.k

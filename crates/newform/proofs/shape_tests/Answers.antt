@@ -4,6 +4,4 @@ use Rattle.newform.proofs.NewLaws.{new_shaped}
 use Rattle.newform.proofs.shape_tests.Goals as goal
 
 pub returns : goal.returns
-returns c =
-    new_shaped _ _ c.shape_tests.ensures c.then-front.ensures c.short_test-short.ensures c.first_test-first.ensures
-    (c.size-n.ensures.0 ∙ c.byte.ensures)
+returns c = new_shaped _ _ c.shape_tests.ensures c.front_tests.ensures (c.size-n.ensures.0 ∙ c.byte.ensures)

@@ -10,4 +10,4 @@ unfolding old_outcome
 returns c =
     let size = c.size-n.ensures.0 ∙ c.byte.ensures in
     let s = c.args.s.now in
-    form_read s {f = old_fields s c.args.charge c.args.affinity c.args.given} c.read.ensures c.short_test-short.ensures (ap old_length size) c.decode-f.ensures
+    form_read s {f = old_fields s c.args.charge c.args.affinity c.args.given} c.read.ensures c.short_test.ensures (ap old_length size) c.decode-f.ensures

@@ -1,34 +1,31 @@
--- The loop's invariant: the total is the sum of the demands that were added.
-use Prim.Native.Nat.{◌-◌}
-use mathlib.Core.Path.{◌≡◌, sym}
+-- The loop's invariant: the total is the sum of the demands that were added, each at most a million.
+use Prim.Native.Nat.{ℕ, ◌≤◌, ◌<◌}
+use mathlib.Core.Path.{◌≡◌, sym, ◌∙◌}
+use mathlib.Core.List.{List}
+use lib.ListN.{get_or, take, length}
+use lib.Seq.{get_or-take, take-length}
 use native.Mathlib.Numerals.{add-one}
 use native.Mathlib.Omega.{arith}
-use Rattle.numbers.proofs.LoadLaws.{sum-take_zero, sum-take_suc, sum-take_le}
+use Rattle.std.proofs.lemmas.List.{length-take}
+use Rattle.numbers.proofs.LoadLaws.{sum-take_zero, sum-take_suc}
 use Rattle.outset.proofs.total_demand.Goals as goal
 
-pub loop-i-init : goal.loop-i-init
-loop-i-init c = (omega arith, sym (sum-take_zero c.args.demands))
+front_small : (n : ℕ) (ds : List ℕ) (i : ℕ) → i < length (take n ds) → ((k : ℕ) → get_or ds k 0 ≤ 1000000) → get_or (take n ds) i 0 ≤ 1000000
+front_small n ds i h b = rw (get_or-take n ds i 0 (omega (arith, length-take n ds))) (b i)
 
-pub offset_bounds-demands-i : goal.offset_bounds-demands-i
-offset_bounds-demands-i c = omega arith
-
-pub bounds-demands-i : goal.bounds-demands-i
-bounds-demands-i c = omega arith
+pub loop-demand-init : goal.loop-demand-init
+loop-demand-init c = (sym (sum-take_zero c.args.demands), omega arith)
 
 pub overflow_add-total : goal.overflow_add-total
-overflow_add-total c =
-    let ds = c.args.demands in
-    let i = c.loop-i.i in
-    omega (arith, sum-take_le 1000000 ds i c.requires.1, c.requires.1 i)
+overflow_add-total c = omega (arith, length-take c.args.n c.args.demands, front_small _ _ _ c.loop-demand-test.true c.requires.1)
 
-pub overflow_add-i : goal.overflow_add-i
-overflow_add-i c = omega arith
-
-pub loop-i-smaller : goal.loop-i-smaller
-loop-i-smaller c = omega arith
-
-pub loop-i-preserved : goal.loop-i-preserved
-loop-i-preserved c = (omega arith, rw (add-one, sum-take_suc) (omega arith))
+pub loop-demand-preserved : goal.loop-demand-preserved
+loop-demand-preserved c = (
+  rw (add-one, sum-take_suc) (omega arith),
+  omega (arith, front_small _ _ _ c.loop-demand-test.true c.requires.1),
+)
 
 pub returns : goal.returns
-returns c = let e : c.loop-i.i ≡ c.args.n = omega arith in rw (← e) c.loop-i.invariant.1
+returns c =
+    let all : c.loop-demand.demand-index ≡ length (take c.args.n c.args.demands) = omega arith in
+    c.loop-demand.invariant.0 ∙ rw (all, take-length)

@@ -1,7 +1,8 @@
--- Four stores, one behind another.
-use Prim.Native.Nat.{◌/◌, ◌%◌}
-use Rattle.wire.proofs.LentLaws.{over_four}
+-- Four bytes stand in the place of four others.
+use native.Mathlib.Omega.{arith}
+use mathlib.Core.Path.{◌∙◌}
+use Rattle.wire.proofs.LentLaws.{over_part}
 use Rattle.packing.proofs.put_word.Goals as goal
 
 pub returns : goal.returns
-returns c = let x = c.args.x in over_four _ _ (x % 256) (x / 256 % 256) (x / 65536 % 256) (x / 16777216 % 256) c.requires
+returns c = over_part _ _ _ (c.copy_from_slice.ensures.after ∙ c.to_le_bytes.ensures) (omega arith)

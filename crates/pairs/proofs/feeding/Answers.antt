@@ -1,8 +1,8 @@
 -- The byte is that of the pair.
-use mathlib.Core.Path.{◌∙◌}
+use borrow.Author.Rules.{rules}
 use Rattle.pairs.proofs.feeding.Goals as goal
 use Rattle.pairs.specs.Pairs.{feeding}
 
 pub returns : goal.returns
 unfolding feeding
-returns c = (c.size.ensures.0 ∙ c.byte.ensures, c.size.ensures.1)
+returns c = search rules

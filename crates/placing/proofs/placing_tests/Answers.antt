@@ -1,13 +1,25 @@
--- The tests are joined in their order.
-use Rattle.refusal.proofs.TestLaws.{order_step, order_last}
+-- The tests are made in their order.
+use borrow.Author.Rules.{rules}
+use Rattle.refusal.specs.Tests.{in_order, ◌then◌}
 use Rattle.placing.specs.Tests.{placing_outcome}
 use Rattle.placing.proofs.placing_tests.Goals as goal
 
+pub returns-in_err-places_test : goal.returns-in_err-places_test
+unfolding placing_outcome in_order ◌then◌
+returns-in_err-places_test c = search rules
+
+pub returns-in_err-entries_test : goal.returns-in_err-entries_test
+unfolding placing_outcome in_order ◌then◌
+returns-in_err-entries_test c = search rules
+
+pub returns-in_err-permitted_test : goal.returns-in_err-permitted_test
+unfolding placing_outcome in_order ◌then◌
+returns-in_err-permitted_test c = search rules
+
+pub returns-in_err-core_test : goal.returns-in_err-core_test
+unfolding placing_outcome in_order ◌then◌
+returns-in_err-core_test c = search rules
+
 pub returns : goal.returns
-unfolding placing_outcome
-returns c =
-    order_step _ c.then.ensures c.places_test-places.ensures
-    (order_step _ c.then-from_entries.ensures c.entries_test-entries.ensures
-    (order_step _ c.then-from_permitted.ensures c.permitted_test-permitted.ensures
-    (order_step _ c.then-from_number.ensures c.core_test-number.ensures
-    (order_last c.load_test-load.ensures))))
+unfolding placing_outcome in_order ◌then◌
+returns c = search rules

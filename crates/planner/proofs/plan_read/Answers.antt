@@ -6,8 +6,8 @@ use Rattle.planner.proofs.plan_read.Goals as goal
 pub plan_tasks-requires : goal.plan_tasks-requires
 plan_tasks-requires c = c.requires.checked (search rules)
 
-pub returns-in-Refused : goal.returns-in-Refused
-returns-in-Refused c = search (rules, plan_refused)
+pub returns-in-Err : goal.returns-in-Err
+returns-in-Err c = search (rules, plan_refused)
 
-pub returns-in-Accepted : goal.returns-in-Accepted
-returns-in-Accepted c = search (rules, plan_accepted)
+pub returns-in-Ok : goal.returns-in-Ok
+returns-in-Ok c = search (rules, plan_accepted)

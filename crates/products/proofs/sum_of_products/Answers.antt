@@ -1,5 +1,4 @@
 -- The loop's invariant: the first k products have been added.
-use Prim.Native.Nat.{◌-◌}
 use borrow.Author.Rules.{rules}
 use Rattle.products.proofs.SumLaws.{add_start, product_fits, sum_fits, add_next, add_done}
 use Rattle.products.proofs.sum_of_products.Goals as goal
@@ -7,8 +6,8 @@ use Rattle.products.proofs.sum_of_products.Goals as goal
 pub loop-k-init : goal.loop-k-init
 loop-k-init c = search (rules, add_start)
 
-pub times-product-requires : goal.times-product-requires
-times-product-requires c = product_fits c.loop-k.invariant c.loop-k-test.true c.factor.ensures
+pub overflow_mul-product : goal.overflow_mul-product
+overflow_mul-product c = record { fits = product_fits c.loop-k.invariant c.loop-k-test.true c.factor-product.ensures }
 
 pub overflow_add-sum : goal.overflow_add-sum
 overflow_add-sum c = search (rules, sum_fits)

@@ -6,8 +6,8 @@ use Rattle.quick.proofs.quick_read.Goals as goal
 pub quick_tasks-requires : goal.quick_tasks-requires
 quick_tasks-requires c = c.requires.checked (search rules)
 
-pub returns-in-Refused : goal.returns-in-Refused
-returns-in-Refused c = search (rules, quick_refused)
+pub returns-in-Err : goal.returns-in-Err
+returns-in-Err c = search (rules, quick_refused)
 
-pub returns-in-Accepted : goal.returns-in-Accepted
-returns-in-Accepted c = search (rules, quick_accepted)
+pub returns-in-Ok : goal.returns-in-Ok
+returns-in-Ok c = search (rules, quick_accepted)

@@ -15,8 +15,8 @@ loop-k-preserved c =
     let h = c.loop-k-test.true in
     let low = c.if-task-gt16.false in
     elim c.if-task-before.branch [
-      | then-task-before w ↦ rw w.needed-is (survey_other inv h low w.if-task-before.true)
-      | else-task-before w ↦ rw w.needed-is (survey_same inv h low w.if-task-before.false)
+      | then-task-before w ↦ rw (w.needed-is, w.before-is) (survey_other inv h low w.if-task-before.true)
+      | else-task-before w ↦ rw (w.needed-is, w.before-is) (survey_same inv h low w.if-task-before.false)
     ]
 
 pub returns : goal.returns

@@ -1,8 +1,7 @@
 -- The loop asks whether the test holds of no slot.
-use Prim.Native.Nat.{◌-◌}
 use mathlib.Core.Path.{refl}
 use Rattle.numbers.proofs.FirstLaws.{clear_start, clear_next, clear_done}
-use Rattle.edf.specs.Slots.{first_slot, cannot_be}
+use Rattle.edf.specs.Slots.{first_slot}
 use Rattle.slots.proofs.ReadLaws.{tested}
 use borrow.Author.Rules.{rules}
 use Rattle.records.proofs.all_can_be.Goals as goal
@@ -22,14 +21,6 @@ bounds-slots-i c = search rules
 pub cannot_be-requires : goal.cannot_be-requires
 unfolding first_slot
 cannot_be-requires c = search rules
-
-pub overflow_add-i : goal.overflow_add-i
-unfolding first_slot
-overflow_add-i c = search rules
-
-pub loop-i-smaller : goal.loop-i-smaller
-unfolding first_slot
-loop-i-smaller c = search rules
 
 pub loop-i-preserved : goal.loop-i-preserved
 unfolding first_slot

@@ -1,11 +1,13 @@
 -- `then` is the definition, case by case.
+use borrow.Author.Rules.{rules}
+use mathlib.Core.Path.{refl}
 use Rattle.refusal.specs.Tests.{◌then◌}
 use Rattle.refusal.proofs.then.Goals as goal
 
-pub returns-in-Accepted : goal.returns-in-Accepted
+pub returns-in_err-first : goal.returns-in_err-first
 unfolding ◌then◌
-returns-in-Accepted c = rw c.in-Accepted.is
+returns-in_err-first c = rw c.in_err-first.was (search rules)
 
-pub returns-in-Refused : goal.returns-in-Refused
+pub returns : goal.returns
 unfolding ◌then◌
-returns-in-Refused c = rw c.in-Refused.is
+returns c = rw c.in_ok-first.was refl

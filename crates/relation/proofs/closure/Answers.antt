@@ -1,5 +1,4 @@
 -- After k steps every task in between is one of 1 to k.
-use Prim.Native.Nat.{◌-◌}
 use Rattle.relation.proofs.CellLaws.{close_start, close_next, close_done}
 use borrow.Author.Rules.{rules}
 use Rattle.relation.proofs.closure.Goals as goal

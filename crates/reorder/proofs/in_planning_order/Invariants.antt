@@ -1,10 +1,6 @@
 -- One task's value after another is written at the end.
-use Prim.Native.Nat.{◌-◌}
 use Rattle.reorder.proofs.ListedLaws.{Gathering}
 use Rattle.reorder.proofs.in_planning_order.Given as goal
 
 abbrev pub invariant-loop-k : goal.invariant-loop-k
-invariant-loop-k l = Gathering l.order l.n l.values l.gathered l.k
-
-abbrev pub decreases-loop-k : goal.decreases-loop-k
-decreases-loop-k l = l.n - l.k
+invariant-loop-k g l = Gathering l.fn.zero l.fn.order l.fn.n l.fn.values l.row l.k

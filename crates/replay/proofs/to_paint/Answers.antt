@@ -4,10 +4,10 @@ use Rattle.refusal.specs.Tests.{by_outcome}
 use Rattle.replay.specs.Tests.{to_paint}
 use Rattle.replay.proofs.to_paint.Goals as goal
 
-pub returns-in-Refused : goal.returns-in-Refused
+pub returns-in-Err : goal.returns-in-Err
 unfolding to_paint by_outcome
-returns-in-Refused c = rw c.in-Refused.is refl
+returns-in-Err c = rw c.in-Err.is refl
 
-pub returns-in-Accepted : goal.returns-in-Accepted
+pub returns-in-Ok : goal.returns-in-Ok
 unfolding to_paint by_outcome
-returns-in-Accepted c = rw c.in-Accepted.is refl
+returns-in-Ok c = rw c.in-Ok.is refl

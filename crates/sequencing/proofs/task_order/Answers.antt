@@ -1,5 +1,4 @@
 -- The tasks so far stand in the row and are marked.
-use Prim.Native.Nat.{◌-◌}
 use Rattle.sequencing.proofs.MarkLaws.{place_start, place_next, place_done}
 use borrow.Author.Rules.{rules}
 use Rattle.sequencing.proofs.task_order.Goals as goal

@@ -7,12 +7,12 @@ use Rattle.start.proofs.fresh.Goals as goal
 pub start-requires : goal.start-requires
 start-requires c = c.read_beside-reading.ensures.reads.checked (search rules)
 
-pub returns-in-Refused : goal.returns-in-Refused
-returns-in-Refused c =
+pub returns-in-Err : goal.returns-in-Err
+returns-in-Err c =
     let said = start_all (beside_sound _ _ _) _ _ (search (rules, start_refused)) in
     record { answer = said.0; decides = said.1.0; starts = said.1.1 }
 
-pub returns-in-Accepted : goal.returns-in-Accepted
-returns-in-Accepted c =
+pub returns-in-Ok : goal.returns-in-Ok
+returns-in-Ok c =
     let said = start_all (beside_sound _ _ _) _ _ (search (rules, start_checked)) in
     record { answer = said.0; decides = said.1.0; starts = said.1.1 }

@@ -4,10 +4,10 @@ use Rattle.refusal.specs.Tests.{by_outcome}
 use Rattle.storing.specs.Lent.{transfer_by}
 use Rattle.storing.proofs.answer.Goals as goal
 
-pub returns-in-Refused : goal.returns-in-Refused
+pub returns-in-Err : goal.returns-in-Err
 unfolding transfer_by by_outcome
-returns-in-Refused c = rw c.in-Refused.is
+returns-in-Err c = rw c.in-Err.is
 
-pub returns-in-Accepted : goal.returns-in-Accepted
+pub returns-in-Ok : goal.returns-in-Ok
 unfolding transfer_by by_outcome
-returns-in-Accepted c = sym (ap (λ o. transfer_by o c.args.size) c.in-Accepted.is)
+returns-in-Ok c = sym (ap (λ o. transfer_by o c.args.size) c.in-Ok.is)

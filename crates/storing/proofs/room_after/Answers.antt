@@ -1,5 +1,12 @@
--- The test is joined behind those before.
+-- The room is tested behind the tests before.
+use borrow.Author.Rules.{rules}
+use Rattle.refusal.specs.Tests.{◌then◌}
 use Rattle.storing.proofs.room_after.Goals as goal
 
+pub returns-in_err-before : goal.returns-in_err-before
+unfolding ◌then◌
+returns-in_err-before c = search rules
+
 pub returns : goal.returns
-returns c = rw (← c.room_test-fits.ensures) c.then.ensures
+unfolding ◌then◌
+returns c = search rules

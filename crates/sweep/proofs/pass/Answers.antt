@@ -1,5 +1,5 @@
 -- What holds after each slot of a part of the pass: an empty slot, one that is due, and one that is not.
-use Prim.Native.Nat.{◌+◌, ◌-◌}
+use Prim.Native.Nat.{◌+◌}
 use mathlib.Core.Path.{◌≡◌, ◌∙◌}
 use lib.ListN.{set}
 use Rattle.slots.specs.SoFar.{choice_so_far}

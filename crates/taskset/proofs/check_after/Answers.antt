@@ -6,8 +6,8 @@ use Rattle.taskset.proofs.check_after.Goals as goal
 pub check_limits-requires : goal.check_limits-requires
 check_limits-requires c = c.requires (search rules)
 
-pub returns-in-Refused : goal.returns-in-Refused
-returns-in-Refused c = search (rules, after_refused)
+pub returns-in-Err : goal.returns-in-Err
+returns-in-Err c = search (rules, after_refused)
 
-pub returns-in-Accepted : goal.returns-in-Accepted
-returns-in-Accepted c = search (rules, after_accepted)
+pub returns-in-Ok : goal.returns-in-Ok
+returns-in-Ok c = search (rules, after_accepted)

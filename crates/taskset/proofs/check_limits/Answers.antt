@@ -6,8 +6,8 @@ use Rattle.taskset.proofs.check_limits.Goals as goal
 pub accepted-requires : goal.accepted-requires
 accepted-requires c = search (rules, limits_say)
 
-pub returns-in-Refused : goal.returns-in-Refused
-returns-in-Refused c = search (rules, by_refused)
+pub returns-in-Err : goal.returns-in-Err
+returns-in-Err c = search (rules, by_refused)
 
-pub returns-in-Accepted : goal.returns-in-Accepted
-returns-in-Accepted c = search (rules, by_accepted)
+pub returns-in-Ok : goal.returns-in-Ok
+returns-in-Ok c = search (rules, by_accepted)

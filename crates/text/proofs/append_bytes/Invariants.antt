@@ -1,11 +1,6 @@
--- After i turns the first i bytes are there.
-use Prim.Native.Nat.{◌-◌}
-use lib.ListN.{length}
+-- The bytes before the loop's index are there.
 use Rattle.text.proofs.ClipLaws.{Spelled}
 use Rattle.text.proofs.append_bytes.Given as goal
 
-abbrev pub invariant-loop-i : goal.invariant-loop-i
-invariant-loop-i l = Spelled l.initial.longer l.bytes l.longer l.i
-
-abbrev pub decreases-loop-i : goal.decreases-loop-i
-decreases-loop-i l = length l.bytes - l.i
+abbrev pub invariant-loop-b : goal.invariant-loop-b
+invariant-loop-b l = Spelled l.initial.longer l.bytes l.longer l.b-index

@@ -11,8 +11,8 @@ pub returns : goal.returns
 returns c =
     let s = c.args.table.now in
     let out = c.args.out.now in
-    let e = call_answer Buffer refl (moving s) c.read_alone-reading.ensures.answer (length out) c.store_new.ensures.answer in
-    let o = call_output Buffer refl (moving s) c.read_alone-reading.ensures.answer out c.store_new.ensures.output in
+    let e = call_answer Buffer refl (moving s) c.read_alone-reading.ensures.answer (length out) c.store.ensures.answer in
+    let o = call_output Buffer refl (moving s) c.read_alone-reading.ensures.answer out c.store.ensures.output in
     record {
       answer = e;
       output = o;

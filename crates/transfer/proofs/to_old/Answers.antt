@@ -12,8 +12,8 @@ use Rattle.transfer.proofs.to_old.Goals as goal
 pub filling_test-filling-requires : goal.filling_test-filling-requires
 filling_test-filling-requires c = reads_few _ c.read_new-read.ensures.reads
 
-pub store_old-requires : goal.store_old-requires
-store_old-requires c =
+pub store-requires : goal.store-requires
+store-requires c =
     let s = c.args.table.now in
     read_reads _ (returned_reading s c.read_new-read.ensures.answer c.filling_test-filling.ensures c.also-reading.ensures) (returned_sound s)
 
@@ -22,8 +22,8 @@ returns c =
     let s = c.args.table.now in
     let out = c.args.out.now in
     let g = returned_reading s c.read_new-read.ensures.answer c.filling_test-filling.ensures c.also-reading.ensures in
-    let e = call_answer Buffer refl (returning s) g (length out) c.store_old.ensures.answer in
-    let o = call_output Buffer refl (returning s) g out c.store_old.ensures.output in
+    let e = call_answer Buffer refl (returning s) g (length out) c.store.ensures.answer in
+    let o = call_output Buffer refl (returning s) g out c.store.ensures.output in
     record {
       answer = e;
       output = o;

@@ -11,8 +11,8 @@ returns c =
     let f = c.args.f in
     let out = c.args.out.now in
     let g = written_reading f c.counted.ensures c.check-reading.ensures.answer in
-    let e = call_answer Buffer refl (writing f) g (length out) c.store_new.ensures.answer in
-    let o = call_output Buffer refl (writing f) g out c.store_new.ensures.output in
+    let e = call_answer Buffer refl (writing f) g (length out) c.store.ensures.answer in
+    let o = call_output Buffer refl (writing f) g out c.store.ensures.output in
     record {
       answer = e;
       output = o;

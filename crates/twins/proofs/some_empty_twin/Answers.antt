@@ -1,5 +1,5 @@
 -- The loop's invariant: none of the first d loads is 0 with a twin's core.
-use Prim.Native.Nat.{ℕ, zero, suc, ◌+◌, ◌*◌, ◌-◌, ◌<◌}
+use Prim.Native.Nat.{ℕ, zero, suc, ◌+◌, ◌*◌, ◌<◌}
 use native.Mathlib.Decide.{ℕ_discrete}
 use native.Mathlib.Numerals.{add-one}
 use native.Mathlib.Omega.{arith}
@@ -31,20 +31,15 @@ module _ (l : List ℕ) (rows : List Bool) (c : ℕ) where
   passed d e f = rw (add-one d, e) f
 
 pub loop-d-init : goal.loop-d-init
-loop-d-init c = (omega arith, none _ _ _)
+loop-d-init c = none _ _ _
 
 pub returns-then-loads-d : goal.returns-then-loads-d
-returns-then-loads-d c =
-    let l = c.loop-d in
-    sym (found _ _ _ l.d _ c.loop-d-test.true c.if-loads-d.true)
+returns-then-loads-d c = sym (found _ _ _ c.loop-d.d _ c.loop-d-test.true c.if-loads-d.true)
 
 pub loop-d-preserved : goal.loop-d-preserved
-loop-d-preserved c =
-    let l = c.loop-d in
-    (omega (arith, c.loop-d-test.true), passed _ _ _ l.d c.if-loads-d.false l.invariant.1)
+loop-d-preserved c = passed _ _ _ c.loop-d.d c.if-loads-d.false c.loop-d.invariant
 
 pub returns : goal.returns
 returns c =
-    let l = c.loop-d in
-    let e : l.d ≡ c.args.k = omega (arith, l.invariant.0, c.loop-d-test.false) in
-    sym (rw e at l.invariant.1)
+    let e : c.loop-d.d ≡ c.args.k = omega arith in
+    sym (rw e at c.loop-d.invariant)

@@ -1,13 +1,7 @@
--- After k turns the first k numbers are there.
-use Rattle.decimal.proofs.JoinLaws.{join_start, join_next, join_done}
-use borrow.Author.Rules.{rules}
+-- Sixteen numbers take sixteen times the room of one.
+use native.Mathlib.Omega.{arith}
+use Rattle.text.proofs.ClipLaws.{append_within}
 use Rattle.caselines.proofs.lines.append_row.Goals as goal
 
-pub loop-k-init : goal.loop-k-init
-loop-k-init c = search (rules, join_start)
-
-pub loop-k-preserved : goal.loop-k-preserved
-loop-k-preserved c = search (rules, join_next)
-
 pub returns : goal.returns
-returns c = search (rules, join_done)
+returns g c = λ f e. append_within 336 (c.append_numbers.ensures f e) (omega arith)

@@ -1,11 +1,7 @@
--- After k turns the first k slots are there.
-use Prim.Native.Nat.{◌-◌}
+-- The slots before the loop's index are there.
 use Rattle.decimal.proofs.JoinLaws.{Joined}
 use Rattle.caselines.specs.Lines.{slot_fields}
 use Rattle.caselines.proofs.lines.append_slots.Given as goal
 
-abbrev pub invariant-loop-k : goal.invariant-loop-k
-invariant-loop-k l = Joined slot_fields 84 16 l.initial.longer l.slots l.longer l.k
-
-abbrev pub decreases-loop-k : goal.decreases-loop-k
-decreases-loop-k l = 16 - l.k
+abbrev pub invariant-loop-s : goal.invariant-loop-s
+invariant-loop-s l = Joined slot_fields 84 16 l.initial.longer l.s-items l.longer l.s-index

@@ -1,4 +1,5 @@
 -- The tests, then the steps or a refusal; what else is promised follows from the answer.
+use Rattle.std.specs.Prelude.{Ok, Err}
 use Prim.Native.Nat.{ℕ}
 use mathlib.Core.Path.{◌≡◌, refl, sym, ◌∙◌}
 use mathlib.Core.Logic.{◌≢◌}
@@ -9,7 +10,6 @@ use lib.ListN.{length, length-map}
 use borrow.Author.Rules.{rules}
 use Rattle.refusal.specs.Conditions.{Decides}
 use Rattle.refusal.specs.declared.Cause.TheVariants.{Slot as WrongSlot}
-use Rattle.refusal.specs.declared.Outcome.TheVariants.{Accepted, Refused}
 use Rattle.refusal.proofs.TestLaws.{accepted≢refused}
 use Rattle.refusal.proofs.ConditionLaws.{◌also◌}
 use Rattle.edf.specs.Tick.{refused_tick, tick}
@@ -29,11 +29,11 @@ abbrev Answered : Core → List ℕ → Ticked → Type 0
 Answered core requests r =
     (tick_answer r ≡ tick core.charge core.slots requests)
     × (Decides (ValidRecord core.charge core.slots) (record_conditions core.charge core.slots) r.outcome
-    × ((r.outcome ≡ Accepted → PlainTick core.charge core.slots requests r)
-    × (r.outcome ≢ Accepted → PlainRefusal core r)))
+    × ((r.outcome ≡ Ok tt → PlainTick core.charge core.slots requests r)
+    × (r.outcome ≢ Ok tt → PlainRefusal core r)))
 
 -- a refused tick is not accepted,
-refusal : (core : Core) (requests : List ℕ) (slot : ℕ) {r : Ticked} → r ≡ record { core = core; run = 0; late = 0; outcome = Refused (WrongSlot slot) }
+refusal : (core : Core) (requests : List ℕ) (slot : ℕ) {r : Ticked} → r ≡ record { core = core; run = 0; late = 0; outcome = Err (WrongSlot slot) }
     → refused_tick core.charge core.slots slot ≡ tick core.charge core.slots requests → Answered core requests r
 refusal core requests slot {r} same is =
     let answer = refused_by core slot same ∙ is in
@@ -44,7 +44,7 @@ refusal core requests slot {r} same is =
 
 -- and an accepted one not refused
 acceptance : (core : Core) (requests : List ℕ) {r : Ticked} → tick_answer r ≡ tick core.charge core.slots requests
-    → PlainTick core.charge core.slots requests r → r.outcome ≡ Accepted → Answered core requests r
+    → PlainTick core.charge core.slots requests r → r.outcome ≡ Ok tt → Answered core requests r
 acceptance core requests {r} answer plain accepted = answer also (answer_decides core requests r answer) also (λ e. plain) also (λ n. absurd (n accepted))
 
 pub stepped-requires : goal.stepped-requires
