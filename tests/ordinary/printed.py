@@ -7,6 +7,7 @@ list behind it.
 usage: python3 printed.py SEED COUNT PROGRAM
 """
 
+import os
 import subprocess
 import sys
 from collections import namedtuple
@@ -40,7 +41,39 @@ def main():
         if (run.stdout, run.stderr) != program.expected(data[:program.most_read]):
             sys.exit(f"{basename(path)} differs on the input {data.hex()}:\n"
                      f"{run.stdout}\n{run.stderr}")
+    fills(path, program, next(data for data in inputs if printed(program, data)))
     print(f"{len(inputs)} inputs")
+
+
+def printed(program, data):
+    return program.expected(data[:program.most_read])[0]
+
+
+# An output that takes less than all.
+
+def fills(path, program, data):
+    """A pipe that nobody waits for, and that refuses what it has no room for as a whole, is filled
+    byte by byte all the same, and what it doesn't take is said."""
+    whole = printed(program, data)
+    for room in (0, 1, len(whole) - 1, len(whole)):
+        taken, said = through_a_pipe(path, data, room)
+        want = b"" if room == len(whole) else b"standard output failed\n"
+        if (taken, said) != (whole[:room], want):
+            sys.exit(f"{basename(path)} differs where its output has room for {room} bytes:\n"
+                     f"{taken}\n{said}")
+
+
+def through_a_pipe(path, data, room):
+    """What a pipe with that much room gets of the program, and standard error."""
+    source, sink = os.pipe()
+    os.set_blocking(sink, False)
+    held = os.write(sink, bytes(1 << 24))
+    os.read(source, held)
+    before = os.write(sink, bytes(held - room))
+    run = subprocess.run([path], input=data, stdout=sink, stderr=subprocess.PIPE, check=True)
+    os.close(sink)
+    with open(source, "rb") as file:
+        return file.read()[before:], run.stderr
 
 
 # Standard output and standard error.

@@ -2,7 +2,7 @@
 // A case is its code in one byte, then its blocks. Each code has a file in `caselines`, which names its blocks.
 #![tactic(auto)]
 
-ghost use Rattle.std.specs.Prelude.{◌≤◌, length};
+ghost use Rattle.std.specs.Prelude.{◌≤◌, length, IfOk};
 ghost use Rattle.logwords.specs.Words.{records_in};
 
 use caselines::outputs::PIECE;
@@ -252,7 +252,9 @@ fn read_runs(streams: &mut Streams, words: &mut [u32], n: usize) -> Result<(), S
 
 // Reads records into the front of a row of numbers, which is as long as they may be, and returns their numbers. The length has to be that
 // of whole records.
-fn read_records<'a>(streams: &mut Streams, words: &'a mut [u32]) -> Result<&'a mut [u32], Stop> {
+fn read_records<'a>(streams: &mut Streams, words: &'a mut [u32]) -> Result<&'a mut [u32], Stop>
+    ensures { IfOk result (λ part. length part.now ≤ length words.old) }
+{
     let head = streams.bytes::<4>()?;
     let size = wire::word(&head, 0) as usize;
     let n = size / 12;

@@ -74,15 +74,16 @@ fn write_once<W: Write>(output: &mut W, bytes: &[u8]) -> usize
     output.write(bytes).unwrap_or(0)
 }
 
-// Writes until all bytes are taken, or a call takes none, and returns how many the output took.
+// Writes all bytes with one call, byte by byte once that took fewer, and returns how many the output took. An output that refuses a long
+// write and takes a short one gets what it takes: a pipe, say, that is not waited for and has less room than the text.
 fn write_bytes<W: Write>(output: &mut W, bytes: &[u8]) -> usize
     ensures most { result ≤ length bytes.now }
     ensures bytes { Appends (W.contents output.old) (W.contents output.new) (take result bytes.now) }
 {
-    let mut done = 0;
+    let mut done = write_once(output, bytes);
     // A `while`, since a turn goes on by as many bytes as the call took, and not by one.
     while done < bytes.len() {
-        let taken = write_once(output, &bytes[done..]);
+        let taken = write_once(output, &bytes[done..done + 1]);
         if taken == 0 {
             return done;
         }

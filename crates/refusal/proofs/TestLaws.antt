@@ -1,11 +1,13 @@
 -- Laws of tests made in order.
 use Rattle.std.specs.Prelude.{Ok, Err, Option, Some, None}
 use Prim.Native.Nat.{ℕ, zero, suc}
-use mathlib.Core.Path.{◌≡◌, refl, sym, ◌∙◌, ap}
+use mathlib.Core.Path.{◌≡◌, refl, sym, ◌∙◌, ap, ap₂}
 use mathlib.Core.List.{List, [], ◌∷◌, ◌++◌}
-use mathlib.Core.Bool.{Bool, true, false}
+use mathlib.Core.Bool.{Bool, true, false, not}
+use lib.Dec.{eqb}
 use mathlib.Core.Logic.{◌⊎◌, inl, inr}
 use native.Mathlib.Omega.{arith}
+use borrow.Author.Tests.{ne_eqb}
 use Rattle.numbers.specs.First.{found}
 use Rattle.refusal.specs.Tests.{◌then◌, refuse_if, refuse_at, in_order, by_outcome}
 use Rattle.refusal.specs.declared.Cause.{Cause}
@@ -98,6 +100,21 @@ pub each_accepts : (ts : List Outcome) → in_order ts ≡ Ok tt → Accepting t
 unfolding in_order
 each_accepts [] e = tt
 each_accepts (t ∷ ts) e = let r = then_accepted t (in_order ts) e in (r.0, each_accepts ts r.1)
+
+-- The steps of a program that makes its tests and joins them.
+pub refuse_at_by : (c : ℕ → Cause) {k w : ℕ} {r : Outcome} → r ≡ refuse_if (not (eqb k 0)) (c k) → k ≡ w → r ≡ refuse_at w c
+unfolding refuse_if refuse_at
+refuse_at_by c {k = zero} e d = rw (← d) e
+refuse_at_by c {k = suc k} e d = rw (← d) (rw (ne_eqb (suc k) 0 (λ z. omega arith)) at e)
+
+pub order_step : {t o x r : Outcome} (ts : List Outcome) → r ≡ t then o → t ≡ x → o ≡ in_order ts → r ≡ in_order (x ∷ ts)
+unfolding in_order
+order_step ts e p q = e ∙ ap₂ ◌then◌ p q
+
+pub order_last : {t x : Outcome} → t ≡ x → t ≡ in_order (x ∷ [])
+unfolding in_order ◌then◌
+order_last {x = Ok _} e = e
+order_last {x = Err c} e = e
 
 -- A place that a search hands back.
 pub named_there : {p : Option ℕ} {k j : ℕ} {x : Cause} (named : ℕ → Cause) → p ≡ Some k → p ≡ found j → (k ≡ j → x ≡ named j) → Err x ≡ refuse_at j named

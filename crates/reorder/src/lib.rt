@@ -6,7 +6,8 @@ ghost use Rattle.numbers.specs.Rows.{row, entry};
 ghost use Rattle.numbers.specs.Reorder.{scatter};
 ghost use Rattle.reorder.specs.Listed.{Listed, gathered};
 
-// The values of the first `n` tasks of an order, in that order, and `zero` up to sixteen.
+// The values of the first `n` tasks of an order, in that order, and `zero` up to sixteen. A loop, and not `numbers::row`, whose row is
+// copied once more on the way: the firmware's entry has little stack.
 pub fn in_planning_order<T: Copy>(zero: T, values: [T; 16], order: [usize; 16], n: usize) -> [T; 16]
     requires { Listed order n }
     ensures { result ≡ row zero n (gathered zero (take n order) values) }

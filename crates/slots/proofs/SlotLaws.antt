@@ -1,5 +1,5 @@
 -- The tests of one slot, as their programs make them.
-use Prim.Native.Nat.{ℕ, ◌+◌, ◌%◌}
+use Prim.Native.Nat.{ℕ, ◌+◌, ◌%◌, ◌≤◌, ◌<◌}
 use mathlib.Core.Path.{◌≡◌, refl, sym, ap}
 use mathlib.Core.Logic.{by_cases}
 use mathlib.Core.Bool.{Bool, true, false, not, ◌&&◌, ◌||◌, or-true}
@@ -9,16 +9,28 @@ use native.Mathlib.Nat.{mod-eq_of_lt}
 use lib.Dec.{eqb, ltb, leb}
 use borrow.Author.Tests.{eq-eqb, ne_eqb, lt-ltb, le-ltb, le-leb, ltb-true}
 use Rattle.edf.specs.declared.Slot.{Slot}
+use Rattle.edf.specs.declared.Claim.{Claim}
 use Rattle.edf.specs.Slots.{cannot_be}
-use Rattle.slots.specs.SoFar.{late_so_far}
+use Rattle.slots.specs.SoFar.{late_so_far, choice_so_far}
 
--- The late task so far, by its test.
+-- The late task and the choice so far, by their tests.
 module _ (late k : ℕ) (s : Slot) where
   pub late-new : (eqb late 0 && ltb 0 s.remaining) ≡ true → k ≡ late_so_far late k s
   late-new e = rw e
 
   pub late_kept : (eqb late 0 && ltb 0 s.remaining) ≡ false → late ≡ late_so_far late k s
   late_kept e = rw e
+
+module _ (best : Claim) (k : ℕ) (s : Slot) where
+  pub choice_new : 0 < s.remaining → (eqb best.task 0 || ltb s.until best.deadline) ≡ true
+      → record { task = k; deadline = s.until } ≡ choice_so_far best k s
+  choice_new h e = rw (lt-ltb 0 s.remaining h, e)
+
+  pub choice_kept : 0 < s.remaining → (eqb best.task 0 || ltb s.until best.deadline) ≡ false → best ≡ choice_so_far best k s
+  choice_kept h e = rw (lt-ltb 0 s.remaining h, e)
+
+  pub choice_idle : s.remaining ≤ 0 → best ≡ choice_so_far best k s
+  choice_idle h = rw (le-ltb 0 s.remaining h)
 
 -- The test as its program makes it, with the budget's remainder by 65,536.
 module _ (charge : ℕ) (s : Slot) where

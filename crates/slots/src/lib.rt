@@ -50,10 +50,14 @@ pub fn late_so_far(late: usize, number: usize, s: Slot) -> usize
 pub fn choice_so_far(best: Claim, number: usize, s: Slot) -> Claim
     ensures { result ≡ choice_so_far best number s }
 {
-    if 0 < s.remaining && (best.task == 0 || s.until < best.deadline) {
-        Claim {
-            task: number,
-            deadline: s.until,
+    if 0 < s.remaining {
+        if (best.task == 0) | (s.until < best.deadline) {
+            Claim {
+                task: number,
+                deadline: s.until,
+            }
+        } else {
+            best
         }
     } else {
         best
